@@ -1,0 +1,27 @@
+// A memory has, at each of 65,536 addresses, a byte and a fixed mark: writable or not. No call refuses.
+ghost use denote.Ref.{now};
+ghost use mathlib.Core.List.{List};
+ghost use mathlib.Core.Path.{_≡_};
+ghost use Rattle.spaces.specs.Cells.{Cells, Lent, put};
+
+pub mod boot_table;
+pub mod lent_ram;
+pub mod lock;
+pub mod split;
+
+pub trait Memory {
+    // what it shows at each address; its meaning is that up to the last one
+    ghost cells: { Self → Cells };
+
+    // the slices that it holds on loan: no call exchanges them, so a lender knows its slice afterwards
+    ghost loans: { Self → List Lent };
+
+    // Answers the byte, and alters nothing.
+    fn read(&self, address: u16) -> u8
+        ensures { λ r. ⌜ r ≡ cells (now (self .entry)) .byte address ⌝ };
+
+    // Puts the byte at a writable address, and has no effect at another.
+    fn write(&mut self, address: u16, byte: u8)
+        ensures after { λ _. ⌜ cells (now (self .exit)) ≡ put (cells (now (self .entry))) address byte ⌝ }
+        ensures loans { λ _. ⌜ loans (now (self .exit)) ≡ loans (now (self .entry)) ⌝ };
+}
