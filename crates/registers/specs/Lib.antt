@@ -1,0 +1,15 @@
+pub mod Numbers
+pub mod Contents
+pub mod Ports
+pub mod Bytes
+pub mod Times
+pub mod Cycles
+pub mod Chips
+pub mod Firsts
+pub mod Writes
+pub mod ReadOuts
+pub mod Interrupts
+pub mod Calls
+pub mod Kept
+pub mod Worked
+pub mod Words
