@@ -1,0 +1,16 @@
+mod Steps
+mod Trails
+mod Decoding
+mod Writes
+mod Calls
+mod Carried
+mod Whole
+mod Marks
+mod Enabled
+mod Enablings
+mod Inside
+mod Places
+mod Ends
+mod Spaces
+mod Alike
+mod Boards
