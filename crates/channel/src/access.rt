@@ -16,7 +16,7 @@ pub(crate) fn fetch<M: Memory, D: DeviceSpace>(
 ) -> u8
     ensures byte { λ r. ⌜ r ≡ byte-at space (address-of space counter) (contents-of (cells (now (memory .entry))) (ports (now (devices .entry)))) ⌝ }
     ensures after { λ _. ⌜ contents-of (cells (now (memory .entry))) (ports (now (devices .exit))) ≡ after-read space (address-of space counter) (contents-of (cells (now (memory .entry))) (ports (now (devices .entry)))) ⌝ }
-    ensures loans { λ _. ⌜ D·DeviceSpace .loans (now (devices .exit)) ≡ D·DeviceSpace .loans (now (devices .entry)) ⌝ }
+    ensures frame { λ _. ⌜ D·DeviceSpace .frame (now (devices .exit)) ≡ D·DeviceSpace .frame (now (devices .entry)) ⌝ }
 {
     match space {
         Space::Memory => memory.read(counter),
@@ -33,8 +33,8 @@ pub(crate) fn store<M: Memory, D: DeviceSpace>(
     devices: &mut D,
 )
     ensures after { λ _. ⌜ contents-of (cells (now (memory .exit))) (ports (now (devices .exit))) ≡ after-write space (address-of space counter) byte (contents-of (cells (now (memory .entry))) (ports (now (devices .entry)))) ⌝ }
-    ensures memory { λ _. ⌜ M·Memory .loans (now (memory .exit)) ≡ M·Memory .loans (now (memory .entry)) ⌝ }
-    ensures devices { λ _. ⌜ D·DeviceSpace .loans (now (devices .exit)) ≡ D·DeviceSpace .loans (now (devices .entry)) ⌝ }
+    ensures memory { λ _. ⌜ M·Memory .frame (now (memory .exit)) ≡ M·Memory .frame (now (memory .entry)) ⌝ }
+    ensures devices { λ _. ⌜ D·DeviceSpace .frame (now (devices .exit)) ≡ D·DeviceSpace .frame (now (devices .entry)) ⌝ }
 {
     match space {
         Space::Memory => memory.write(counter, byte),

@@ -66,7 +66,7 @@ fn ask_source<M: Memory, D: DeviceSpace>(
 ) -> Move
     ensures made { λ r. ⌜ move-of r ≡ read-step Transfer (now (program .entry)) (now (progress .entry)) (contents-of (cells (now (memory .entry))) (ports (now (devices .entry)))) .move ⌝ }
     ensures after { λ _. ⌜ contents-of (cells (now (memory .entry))) (ports (now (devices .exit))) ≡ read-step Transfer (now (program .entry)) (now (progress .entry)) (contents-of (cells (now (memory .entry))) (ports (now (devices .entry)))) .contents ⌝ }
-    ensures loans { λ _. ⌜ D·DeviceSpace .loans (now (devices .exit)) ≡ D·DeviceSpace .loans (now (devices .entry)) ⌝ }
+    ensures frame { λ _. ⌜ D·DeviceSpace .frame (now (devices .exit)) ≡ D·DeviceSpace .frame (now (devices .entry)) ⌝ }
 {
     let space = source_port(program).space;
     let counter = source_counter(program, progress);
@@ -89,7 +89,7 @@ pub(crate) fn read_byte<M: Memory, D: DeviceSpace>(
 ) -> Step
     requires { ⌜ now progress .count ≤ 65535 ⌝ }
     ensures step { λ r. ⌜ step-of r (now (progress .exit)) (contents-of (cells (now (memory .entry))) (ports (now (devices .exit)))) ≡ read-step (now (program .entry) .class) (now (program .entry)) (now (progress .entry)) (contents-of (cells (now (memory .entry))) (ports (now (devices .entry)))) ⌝ }
-    ensures loans { λ _. ⌜ D·DeviceSpace .loans (now (devices .exit)) ≡ D·DeviceSpace .loans (now (devices .entry)) ⌝ }
+    ensures frame { λ _. ⌜ D·DeviceSpace .frame (now (devices .exit)) ≡ D·DeviceSpace .frame (now (devices .entry)) ⌝ }
 {
     let mut made = ask_source(program, progress, memory, devices);
     let byte = Some(made.byte);
@@ -121,8 +121,8 @@ pub(crate) fn write_byte<M: Memory, D: DeviceSpace>(
 ) -> Step
     requires { ⌜ now progress .count ≤ 65535 ⌝ }
     ensures step { λ r. ⌜ step-of r (now (progress .exit)) (contents-of (cells (now (memory .exit))) (ports (now (devices .exit)))) ≡ write-step (now (program .entry)) byte (now (progress .entry)) (contents-of (cells (now (memory .entry))) (ports (now (devices .entry)))) ⌝ }
-    ensures memory { λ _. ⌜ M·Memory .loans (now (memory .exit)) ≡ M·Memory .loans (now (memory .entry)) ⌝ }
-    ensures devices { λ _. ⌜ D·DeviceSpace .loans (now (devices .exit)) ≡ D·DeviceSpace .loans (now (devices .entry)) ⌝ }
+    ensures memory { λ _. ⌜ M·Memory .frame (now (memory .exit)) ≡ M·Memory .frame (now (memory .entry)) ⌝ }
+    ensures devices { λ _. ⌜ D·DeviceSpace .frame (now (devices .exit)) ≡ D·DeviceSpace .frame (now (devices .entry)) ⌝ }
 {
     let space = destination_port(program).space;
     let counter = destination_counter(program, progress);

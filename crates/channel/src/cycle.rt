@@ -50,8 +50,8 @@ pub(crate) fn step<M: Memory, D: DeviceSpace>(
 ) -> Step
     requires { ⌜ now progress .count ≤ 65535 ⌝ }
     ensures step { λ r. ⌜ step-of r (now (progress .exit)) (contents-of (cells (now (memory .exit))) (ports (now (devices .exit)))) ≡ step (now (program .entry)) (now (progress .entry)) (contents-of (cells (now (memory .entry))) (ports (now (devices .entry)))) ⌝ }
-    ensures memory { λ _. ⌜ M·Memory .loans (now (memory .exit)) ≡ M·Memory .loans (now (memory .entry)) ⌝ }
-    ensures devices { λ _. ⌜ D·DeviceSpace .loans (now (devices .exit)) ≡ D·DeviceSpace .loans (now (devices .entry)) ⌝ }
+    ensures memory { λ _. ⌜ M·Memory .frame (now (memory .exit)) ≡ M·Memory .frame (now (memory .entry)) ⌝ }
+    ensures devices { λ _. ⌜ D·DeviceSpace .frame (now (devices .exit)) ≡ D·DeviceSpace .frame (now (devices .entry)) ⌝ }
 {
     match progress.held {
         Some(byte) => write_byte(program, byte, progress, memory, devices),
@@ -68,8 +68,8 @@ fn work<M: Memory, D: DeviceSpace>(
 ) -> Answer
     requires { ⌜ now registers .progress .count ≤ 65535 ⌝ }
     ensures cycled { λ r. ⌜ cycled-of r (now (registers .exit)) (contents-of (cells (now (memory .exit))) (ports (now (devices .exit)))) ≡ worked waits (now (registers .entry)) (contents-of (cells (now (memory .entry))) (ports (now (devices .entry)))) ⌝ }
-    ensures memory { λ _. ⌜ M·Memory .loans (now (memory .exit)) ≡ M·Memory .loans (now (memory .entry)) ⌝ }
-    ensures devices { λ _. ⌜ D·DeviceSpace .loans (now (devices .exit)) ≡ D·DeviceSpace .loans (now (devices .entry)) ⌝ }
+    ensures memory { λ _. ⌜ M·Memory .frame (now (memory .exit)) ≡ M·Memory .frame (now (memory .entry)) ⌝ }
+    ensures devices { λ _. ⌜ D·DeviceSpace .frame (now (devices .exit)) ≡ D·DeviceSpace .frame (now (devices .entry)) ⌝ }
 {
     let step = step(&registers.program, &mut registers.progress, memory, devices);
     latch(
@@ -110,8 +110,8 @@ pub fn cycle<M: Memory, D: DeviceSpace>(
 ) -> Answer
     requires { ⌜ now registers .progress .count ≤ 65535 ⌝ }
     ensures cycled { λ r. ⌜ cycled-of r (now (registers .exit)) (contents-of (cells (now (memory .exit))) (ports (now (devices .exit)))) ≡ cycled forced input (now (registers .entry)) (contents-of (cells (now (memory .entry))) (ports (now (devices .entry)))) ⌝ }
-    ensures memory { λ _. ⌜ M·Memory .loans (now (memory .exit)) ≡ M·Memory .loans (now (memory .entry)) ⌝ }
-    ensures devices { λ _. ⌜ D·DeviceSpace .loans (now (devices .exit)) ≡ D·DeviceSpace .loans (now (devices .entry)) ⌝ }
+    ensures memory { λ _. ⌜ M·Memory .frame (now (memory .exit)) ≡ M·Memory .frame (now (memory .entry)) ⌝ }
+    ensures devices { λ _. ⌜ D·DeviceSpace .frame (now (devices .exit)) ≡ D·DeviceSpace .frame (now (devices .entry)) ⌝ }
 {
     match registers.progress.held {
         Some(_) => work(input.waits, registers, memory, devices),

@@ -1,5 +1,6 @@
-// Examples of what the libraries do, as tests. They stand in a crate of their own, since a crate with tests is
-// proved twice; it has nothing else, and uses every library below the programs.
+// Examples of what the libraries do: one that is proved, and tests. The tests stand in a crate of their own, since a
+// crate with tests is proved twice. It uses every library below the programs.
+mod lending;
 #[cfg(test)]
 mod scripts_played;
 #[cfg(test)]

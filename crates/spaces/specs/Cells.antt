@@ -1,7 +1,7 @@
 -- What a memory means: a byte and a mark at each of 65,536 addresses. Assumes nothing.
 use mathlib.Core.Path.{_≡_}
 use mathlib.Core.Bool.{Bool, false, cond, not, _&&_}
-use mathlib.Core.List.{List}
+use mathlib.Core.List.{List, [], _∷_, _++_}
 use Prim.Native.Nat.{ℕ, _-_, _<_}
 use lib.Dec.{leb, ltb, eqb}
 use lib.ListN.{length, getD, set}
@@ -50,13 +50,28 @@ parted b m n = record {
   writable = λ k. cond (ltb k b) (m .writable k) (n .writable k);
 }
 
--- a slice that a memory holds on loan. Its ghost name is what the lender knows it by; with the address that its first
--- byte shows at, and the part of it that lies past the last address and that no address shows, a lender who knows
--- the memory's meaning knows the whole slice again
+-- a slice that a space holds on loan: its ghost name, which is what the lender knows it by, and the part of it that
+-- lies past the last address and that no address shows
 pub record Lent : Type 0 where
   pub name : GName
-  pub first : ℕ
   pub hidden : List ℕ
+
+-- what no call of a space alters: the slices on loan, and the numbers that say where they and the layers' borders lie.
+-- With the meaning they tell a lender its slice again
+pub record Frame : Type 0 where
+  pub slices : List Lent
+  pub numbers : List ℕ
+
+-- two frames, and numbers in front of one
+abbrev pub joined : Frame → Frame → Frame
+joined f g = record { slices = f .slices ++ g .slices; numbers = f .numbers ++ g .numbers }
+
+abbrev pub numbered : List ℕ → Frame → Frame
+numbered ns f = record { slices = f .slices; numbers = ns ++ f .numbers }
+
+-- nothing on loan
+abbrev pub no-frame : Frame
+no-frame = record { slices = []; numbers = [] }
 
 -- a slice lent from the address f on, after a write of b to the address a
 abbrev pub stored : ℕ → List ℕ → ℕ → ℕ → List ℕ

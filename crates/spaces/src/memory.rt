@@ -1,8 +1,7 @@
 // A memory has, at each of 65,536 addresses, a byte and a fixed mark: writable or not. No call refuses.
 ghost use denote.Ref.{now};
-ghost use mathlib.Core.List.{List};
 ghost use mathlib.Core.Path.{_≡_};
-ghost use Rattle.spaces.specs.Cells.{Cells, Lent, put};
+ghost use Rattle.spaces.specs.Cells.{Cells, Frame, put};
 
 pub mod boot_table;
 pub mod lent_ram;
@@ -13,8 +12,8 @@ pub trait Memory {
     // what it shows at each address; its meaning is that up to the last one
     ghost cells: { Self → Cells };
 
-    // the slices that it holds on loan: no call exchanges them, so a lender knows its slice afterwards
-    ghost loans: { Self → List Lent };
+    // what no call alters: the slices on loan and where they lie, so that a lender knows its slice afterwards
+    ghost frame: { Self → Frame };
 
     // Answers the byte, and alters nothing.
     fn read(&self, address: u16) -> u8
@@ -23,5 +22,5 @@ pub trait Memory {
     // Puts the byte at a writable address, and has no effect at another.
     fn write(&mut self, address: u16, byte: u8)
         ensures after { λ _. ⌜ cells (now (self .exit)) ≡ put (cells (now (self .entry))) address byte ⌝ }
-        ensures loans { λ _. ⌜ loans (now (self .exit)) ≡ loans (now (self .entry)) ⌝ };
+        ensures frame { λ _. ⌜ frame (now (self .exit)) ≡ frame (now (self .entry)) ⌝ };
 }

@@ -4,7 +4,7 @@ ghost use lib.ListN.{length};
 ghost use mathlib.Core.List.{[]};
 ghost use mathlib.Core.Path.{_≡_};
 ghost use Rattle.ring.specs.Kept.{kept};
-ghost use Rattle.spaces.specs.Devices.{sink, chute-record, chute-record-loans};
+ghost use Rattle.spaces.specs.Devices.{sink, chute-record, chute-record-frame};
 ghost use Rattle.spaces.specs.Ports.{only};
 ghost use Rattle.std.specs.shelf.Maps.{nth};
 use crate::device::DeviceSpace;
@@ -19,6 +19,7 @@ pub struct ChuteRecord<'a> {
 impl<'a> ChuteRecord<'a> {
     pub fn new(port: u8, bytes: &'a mut [u8]) -> ChuteRecord<'a>
         ensures meaning { λ r. ⌜ chute-record r ≡ only port (sink (length (now (bytes .entry))) []) ⌝ }
+        ensures port { λ r. ⌜ r .port ≡ port ⌝ }
         ensures lent { λ r. ⌜ name (r .ring .slots) ≡ name (bytes .entry) ⌝ }
     {
         ChuteRecord {
@@ -45,7 +46,7 @@ impl<'a> ChuteRecord<'a> {
 pub impl<'a> DeviceSpace for ChuteRecord<'a> as ChuteRecordDeviceSpace {
     ghost ports = { chute-record };
 
-    ghost loans = { chute-record-loans };
+    ghost frame = { chute-record-frame };
 
     fn read(&mut self, _port: u8) -> u8 {
         0xff

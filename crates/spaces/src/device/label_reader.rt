@@ -3,7 +3,7 @@ ghost use lib.ListN.{length, drop};
 ghost use mathlib.Core.List.{[], _∷_};
 ghost use mathlib.Core.Path.{_≡_};
 ghost use Prim.Native.Nat.{_+_, _<_};
-ghost use Rattle.spaces.specs.Devices.{source, label-reader};
+ghost use Rattle.spaces.specs.Devices.{source, label-reader, label-reader-frame};
 ghost use Rattle.spaces.specs.Ports.{only};
 ghost use Rattle.std.specs.Options.{Cases as BySome};
 use crate::device::DeviceSpace;
@@ -18,7 +18,8 @@ pub struct LabelReader<'a> {
 
 impl<'a> LabelReader<'a> {
     pub fn new(port: u8, labels: &'a [u8]) -> LabelReader<'a>
-        ensures { λ r. ⌜ label-reader r ≡ only port (source (now (labels .entry))) ⌝ }
+        ensures meaning { λ r. ⌜ label-reader r ≡ only port (source (now (labels .entry))) ⌝ }
+        ensures port { λ r. ⌜ r .port ≡ port ⌝ }
     {
         LabelReader {
             port,
@@ -53,7 +54,7 @@ impl<'a> LabelReader<'a> {
 pub impl<'a> DeviceSpace for LabelReader<'a> as LabelReaderDeviceSpace {
     ghost ports = { label-reader };
 
-    ghost loans = { λ _. [] };
+    ghost frame = { label-reader-frame };
 
     fn read(&mut self, port: u8) -> u8 {
         if port != self.port {

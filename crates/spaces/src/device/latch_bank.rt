@@ -1,8 +1,8 @@
 // A latch bank: every port has its own rest byte, and keeps the byte last written to it.
 // A write never changes what a read answers: the rest byte is fixed, the kept byte is what the diverter sees.
 ghost use lib.ListN.{getD, replicate};
-ghost use mathlib.Core.List.{[]};
 ghost use mathlib.Core.Path.{_≡_};
+ghost use Rattle.spaces.specs.Cells.{no-frame};
 ghost use Rattle.spaces.specs.Devices.{latches, latch-bank};
 ghost use Rattle.std.specs.declared.option.Option.the-variants.{None};
 use crate::device::DeviceSpace;
@@ -35,7 +35,7 @@ impl LatchBank {
 pub impl DeviceSpace for LatchBank as LatchBankDeviceSpace {
     ghost ports = { latch-bank };
 
-    ghost loans = { λ _. [] };
+    ghost frame = { λ _. no-frame };
 
     fn read(&mut self, port: u8) -> u8 {
         self.rests[port as usize]

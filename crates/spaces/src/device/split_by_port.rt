@@ -1,8 +1,9 @@
 // A split of the ports between any two device spaces: those below the border are the one's, the rest the other's.
 ghost use lib.Dec.{ltb};
-ghost use mathlib.Core.List.{_++_};
+ghost use mathlib.Core.List.{[], _∷_};
 ghost use mathlib.Core.Path.{_≡_};
-ghost use Rattle.spaces.specs.Devices.{splits-by-port};
+ghost use Rattle.spaces.specs.Cells.{numbered, joined};
+ghost use Rattle.spaces.specs.Devices.{splits-by-port, split-by-port-frame};
 ghost use Rattle.spaces.specs.Ports.{shared};
 use crate::device::DeviceSpace;
 
@@ -16,6 +17,7 @@ pub struct SplitByPort<L, H> {
 impl<L: DeviceSpace, H: DeviceSpace> SplitByPort<L, H> {
     pub fn new(low: L, high: H, border: u8) -> SplitByPort<L, H>
         ensures meaning { λ r. ⌜ splits-by-port (L·DeviceSpace .ports) (H·DeviceSpace .ports) r ≡ shared border (L·DeviceSpace .ports low) (H·DeviceSpace .ports high) ⌝ }
+        ensures frame { λ r. ⌜ split-by-port-frame (L·DeviceSpace .frame) (H·DeviceSpace .frame) r ≡ numbered (border ∷ []) (joined (L·DeviceSpace .frame low) (H·DeviceSpace .frame high)) ⌝ }
         ensures below { λ r. ⌜ (r .low ≡ low) × (r .high ≡ high) ⌝ }
     {
         SplitByPort { low, high, border }
@@ -35,7 +37,7 @@ pub impl<L: DeviceSpace, H: DeviceSpace> DeviceSpace for SplitByPort<
 > as SplitByPortDeviceSpace {
     ghost ports = { splits-by-port (L·DeviceSpace .ports) (H·DeviceSpace .ports) };
 
-    ghost loans = { λ d. L·DeviceSpace .loans (d .low) ++ H·DeviceSpace .loans (d .high) };
+    ghost frame = { split-by-port-frame (L·DeviceSpace .frame) (H·DeviceSpace .frame) };
 
     fn read(&mut self, port: u8) -> u8 {
         if self.is_low(port) {

@@ -1,7 +1,6 @@
 // A boot table: 256 given bytes from address 0 on, FFh above, nowhere writable. The card starts from it.
-ghost use mathlib.Core.List.{[]};
 ghost use mathlib.Core.Path.{_≡_};
-ghost use Rattle.spaces.specs.Cells.{table};
+ghost use Rattle.spaces.specs.Cells.{no-frame, table};
 ghost use Rattle.spaces.specs.Memories.{boot-table};
 use crate::memory::Memory;
 
@@ -21,7 +20,7 @@ impl BootTable {
 pub impl Memory for BootTable as BootTableMemory {
     ghost cells = { boot-table };
 
-    ghost loans = { λ _. [] };
+    ghost frame = { λ _. no-frame };
 
     fn read(&self, address: u16) -> u8 {
         let i = address as usize;

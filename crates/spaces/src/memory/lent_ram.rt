@@ -4,7 +4,7 @@ ghost use lib.ListN.{length, set};
 ghost use mathlib.Core.Path.{_≡_};
 ghost use Prim.Native.Nat.{_+_, _<_};
 ghost use Rattle.spaces.specs.Cells.{ram, stored, put};
-ghost use Rattle.spaces.specs.Memories.{lent-ram, lent-ram-loans};
+ghost use Rattle.spaces.specs.Memories.{lent-ram, lent-ram-frame};
 use crate::memory::Memory;
 
 #[derive(Drop)]
@@ -23,13 +23,22 @@ impl<'a> LentRam<'a> {
         LentRam { first, bytes }
     }
 
+    // The slice, back from its loan.
+    pub fn into_bytes(self) -> &'a mut [u8]
+        ensures slice { λ r. ⌜ now r ≡ now (self .entry .bytes) ⌝ }
+        ensures lent { λ r. ⌜ name r ≡ name (self .entry .bytes) ⌝ }
+    {
+        let LentRam { first: _, bytes } = self;
+        bytes
+    }
+
     // Writes a byte of the slice that an address shows.
     fn store(&mut self, i: usize, byte: u8)
         requires within { ⌜ i < length (now (now self .bytes)) ⌝ }
         requires shown { ⌜ now self .first + i < 65536 ⌝ }
         ensures first { λ _. ⌜ now (self .exit) .first ≡ now (self .entry) .first ⌝ }
         ensures slice { λ _. ⌜ now (now (self .exit) .bytes) ≡ set (now (now (self .entry) .bytes)) i byte ⌝ }
-        ensures loans { λ _. ⌜ lent-ram-loans (now (self .exit)) ≡ lent-ram-loans (now (self .entry)) ⌝ }
+        ensures frame { λ _. ⌜ lent-ram-frame (now (self .exit)) ≡ lent-ram-frame (now (self .entry)) ⌝ }
         ensures lent { λ _. ⌜ name (now (self .exit) .bytes) ≡ name (now (self .entry) .bytes) ⌝ }
     {
         self.bytes[i] = byte;
@@ -39,7 +48,7 @@ impl<'a> LentRam<'a> {
 pub impl<'a> Memory for LentRam<'a> as LentRamMemory {
     ghost cells = { lent-ram };
 
-    ghost loans = { lent-ram-loans };
+    ghost frame = { lent-ram-frame };
 
     fn read(&self, address: u16) -> u8 {
         if address < self.first {
@@ -55,7 +64,7 @@ pub impl<'a> Memory for LentRam<'a> as LentRamMemory {
 
     fn write(&mut self, address: u16, byte: u8)
         ensures after { λ _. ⌜ lent-ram (now (self .exit)) ≡ put (lent-ram (now (self .entry))) address byte ⌝ }
-        ensures loans { λ _. ⌜ lent-ram-loans (now (self .exit)) ≡ lent-ram-loans (now (self .entry)) ⌝ }
+        ensures frame { λ _. ⌜ lent-ram-frame (now (self .exit)) ≡ lent-ram-frame (now (self .entry)) ⌝ }
         ensures slice { λ _. ⌜ now (now (self .exit) .bytes) ≡ stored (now (self .entry) .first) (now (now (self .entry) .bytes)) address byte ⌝ }
         ensures lent { λ _. ⌜ name (now (self .exit) .bytes) ≡ name (now (self .entry) .bytes) ⌝ }
     {
