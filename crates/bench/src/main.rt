@@ -1,7 +1,10 @@
 // Plays scripts on a board and prints what came: one script on standard input, or each file named as an argument.
 // It is thin: everything that matters stands in the crate `script`. docs/bench-script.md is the language.
+#![tactic(auto)]
+
 use script::play::play;
 use std::io::{BufReader, Read};
+use std::process::ExitCode;
 use std::{env, fs, io};
 
 // What ends the program with status 1, once its line on standard error is written.
@@ -14,26 +17,38 @@ impl From<io::Error> for Stopped {
     }
 }
 
-fn main(rt: HostRuntime) -> Result<(), Stopped> {
+fn main(rt: HostRuntime) -> ExitCode {
+    match play_all(&rt) {
+        Ok(()) => ExitCode::SUCCESS,
+        Err(Stopped) => ExitCode::FAILURE,
+    }
+}
+
+// The scripts that the arguments name, or with none the one on standard input.
+fn play_all(rt: &HostRuntime) -> Result<(), Stopped> {
     let mut names = 0usize;
-    for name in env::args(&rt)?.skip(1) {
-        play_file(&rt, name.as_str())?;
+    for name in env::args(rt)?.skip(1) {
+        play_file(rt, name.as_str())?;
         names = names.saturating_add(1);
     }
     if names == 0 {
-        play_input(&rt)?;
+        play_input(rt)?;
     }
     Ok(())
 }
 
+fn standard_input(rt: &HostRuntime) -> io::Result<Vec<u8>> {
+    let mut text = Vec::new(rt.alloc());
+    BufReader::new(rt.alloc(), rt.stdin())?.read_to_end(&mut text)?;
+    Ok(text)
+}
+
 // One script on standard input.
 fn play_input(rt: &HostRuntime) -> Result<(), Stopped> {
-    let mut text = Vec::new(rt.alloc());
-    let mut input = BufReader::new(rt.alloc(), rt.stdin())?;
-    if input.read_to_end(&mut text).is_err() {
+    let Ok(text) = standard_input(rt) else {
         eprintln!(rt; "standard input can't be read")?;
         return Err(Stopped);
-    }
+    };
     match play(rt.alloc(), text.as_slice()) {
         Ok(out) => print!(rt; "{out}")?,
         Err(fault) => {

@@ -15,9 +15,9 @@ pub(crate) fn fetch<M: Memory, D: DeviceSpace>(
     memory: &M,
     devices: &mut D,
 ) -> u8
-    ensures byte { result ≡ byte_at space (address_of space counter) (contents_of (cells memory.now) (ports devices.old)) }
-    ensures after { contents_of (cells memory.now) (ports devices.new) ≡ after_read space (address_of space counter) (contents_of (cells memory.now) (ports devices.old)) }
-    ensures frame { D.DeviceSpace.frame devices.new ≡ D.DeviceSpace.frame devices.old }
+    ensures byte { result ≡ byte_at space (address_of space counter) (contents_of (M.cells memory.now) (D.ports devices.old)) }
+    ensures after { contents_of (M.cells memory.now) (D.ports devices.new) ≡ after_read space (address_of space counter) (contents_of (M.cells memory.now) (D.ports devices.old)) }
+    ensures frame { D.frame devices.new ≡ D.frame devices.old }
 {
     match space {
         Space::Memory => memory.read(counter),
@@ -33,9 +33,9 @@ pub(crate) fn store<M: Memory, D: DeviceSpace>(
     memory: &mut M,
     devices: &mut D,
 )
-    ensures after { contents_of (cells memory.new) (ports devices.new) ≡ after_write space (address_of space counter) byte (contents_of (cells memory.old) (ports devices.old)) }
-    ensures memory { M.Memory.frame memory.new ≡ M.Memory.frame memory.old }
-    ensures devices { D.DeviceSpace.frame devices.new ≡ D.DeviceSpace.frame devices.old }
+    ensures after { contents_of (M.cells memory.new) (D.ports devices.new) ≡ after_write space (address_of space counter) byte (contents_of (M.cells memory.old) (D.ports devices.old)) }
+    ensures memory { M.frame memory.new ≡ M.frame memory.old }
+    ensures devices { D.frame devices.new ≡ D.frame devices.old }
 {
     match space {
         Space::Memory => memory.write(counter, byte),

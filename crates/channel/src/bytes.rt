@@ -54,9 +54,9 @@ fn ask_source<M: Memory, D: DeviceSpace>(
     memory: &M,
     devices: &mut D,
 ) -> Move
-    ensures made { move_of result ≡ (read_step Transfer program.now progress.now (contents_of (cells memory.now) (ports devices.old))).move }
-    ensures after { contents_of (cells memory.now) (ports devices.new) ≡ (read_step Transfer program.now progress.now (contents_of (cells memory.now) (ports devices.old))).contents }
-    ensures frame { D.DeviceSpace.frame devices.new ≡ D.DeviceSpace.frame devices.old }
+    ensures made { move_of result ≡ (read_step Transfer program.now progress.now (contents_of (M.cells memory.now) (D.ports devices.old))).move }
+    ensures after { contents_of (M.cells memory.now) (D.ports devices.new) ≡ (read_step Transfer program.now progress.now (contents_of (M.cells memory.now) (D.ports devices.old))).contents }
+    ensures frame { D.frame devices.new ≡ D.frame devices.old }
 {
     let space = source_port(program).space;
     let counter = source_counter(program, progress);
@@ -78,8 +78,8 @@ pub(crate) fn read_byte<M: Memory, D: DeviceSpace>(
     devices: &mut D,
 ) -> Step
     requires { progress.old.count ≤ 65535 }
-    ensures step { step_of result progress.new (contents_of (cells memory.now) (ports devices.new)) ≡ read_step program.now.class program.now progress.old (contents_of (cells memory.now) (ports devices.old)) }
-    ensures frame { D.DeviceSpace.frame devices.new ≡ D.DeviceSpace.frame devices.old }
+    ensures step { step_of result progress.new (contents_of (M.cells memory.now) (D.ports devices.new)) ≡ read_step program.now.class program.now progress.old (contents_of (M.cells memory.now) (D.ports devices.old)) }
+    ensures frame { D.frame devices.new ≡ D.frame devices.old }
 {
     let mut made = ask_source(program, progress, memory, devices);
     let byte = Some(made.byte);
@@ -110,9 +110,9 @@ pub(crate) fn write_byte<M: Memory, D: DeviceSpace>(
     devices: &mut D,
 ) -> Step
     requires { progress.old.count ≤ 65535 }
-    ensures step { step_of result progress.new (contents_of (cells memory.new) (ports devices.new)) ≡ write_step program.now byte progress.old (contents_of (cells memory.old) (ports devices.old)) }
-    ensures memory { M.Memory.frame memory.new ≡ M.Memory.frame memory.old }
-    ensures devices { D.DeviceSpace.frame devices.new ≡ D.DeviceSpace.frame devices.old }
+    ensures step { step_of result progress.new (contents_of (M.cells memory.new) (D.ports devices.new)) ≡ write_step program.now byte progress.old (contents_of (M.cells memory.old) (D.ports devices.old)) }
+    ensures memory { M.frame memory.new ≡ M.frame memory.old }
+    ensures devices { D.frame devices.new ≡ D.frame devices.old }
 {
     let space = destination_port(program).space;
     let counter = destination_counter(program, progress);

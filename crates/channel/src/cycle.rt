@@ -44,9 +44,9 @@ pub(crate) fn step<M: Memory, D: DeviceSpace>(
     devices: &mut D,
 ) -> Step
     requires { progress.old.count ≤ 65535 }
-    ensures step { step_of result progress.new (contents_of (cells memory.new) (ports devices.new)) ≡ step program.now progress.old (contents_of (cells memory.old) (ports devices.old)) }
-    ensures memory { M.Memory.frame memory.new ≡ M.Memory.frame memory.old }
-    ensures devices { D.DeviceSpace.frame devices.new ≡ D.DeviceSpace.frame devices.old }
+    ensures step { step_of result progress.new (contents_of (M.cells memory.new) (D.ports devices.new)) ≡ step program.now progress.old (contents_of (M.cells memory.old) (D.ports devices.old)) }
+    ensures memory { M.frame memory.new ≡ M.frame memory.old }
+    ensures devices { D.frame devices.new ≡ D.frame devices.old }
 {
     match progress.held {
         Some(byte) => write_byte(program, byte, progress, memory, devices),
@@ -62,9 +62,9 @@ fn work<M: Memory, D: DeviceSpace>(
     devices: &mut D,
 ) -> Answer
     requires { registers.old.progress.count ≤ 65535 }
-    ensures cycled { cycled_of result registers.new (contents_of (cells memory.new) (ports devices.new)) ≡ worked waits registers.old (contents_of (cells memory.old) (ports devices.old)) }
-    ensures memory { M.Memory.frame memory.new ≡ M.Memory.frame memory.old }
-    ensures devices { D.DeviceSpace.frame devices.new ≡ D.DeviceSpace.frame devices.old }
+    ensures cycled { cycled_of result registers.new (contents_of (M.cells memory.new) (D.ports devices.new)) ≡ worked waits registers.old (contents_of (M.cells memory.old) (D.ports devices.old)) }
+    ensures memory { M.frame memory.new ≡ M.frame memory.old }
+    ensures devices { D.frame devices.new ≡ D.frame devices.old }
 {
     let step = step(&registers.program, &mut registers.progress, memory, devices);
     latch(
@@ -104,9 +104,9 @@ pub fn cycle<M: Memory, D: DeviceSpace>(
     devices: &mut D,
 ) -> Answer
     requires { registers.old.progress.count ≤ 65535 }
-    ensures cycled { cycled_of result registers.new (contents_of (cells memory.new) (ports devices.new)) ≡ cycled forced input registers.old (contents_of (cells memory.old) (ports devices.old)) }
-    ensures memory { M.Memory.frame memory.new ≡ M.Memory.frame memory.old }
-    ensures devices { D.DeviceSpace.frame devices.new ≡ D.DeviceSpace.frame devices.old }
+    ensures cycled { cycled_of result registers.new (contents_of (M.cells memory.new) (D.ports devices.new)) ≡ cycled forced input registers.old (contents_of (M.cells memory.old) (D.ports devices.old)) }
+    ensures memory { M.frame memory.new ≡ M.frame memory.old }
+    ensures devices { D.frame devices.new ≡ D.frame devices.old }
 {
     match registers.progress.held {
         Some(_) => work(input.waits, registers, memory, devices),

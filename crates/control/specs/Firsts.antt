@@ -1,5 +1,5 @@
 -- First bytes: their group, the followers that they announce, and what their bit fields say.
-use Rattle.std.specs.Prelude.{ℕ, Bool, true, false, cond, not, List, [], ◌∷◌, ◌++◌, Some, None, Ok, Err, Option, Result, ◌==◌}
+use Rattle.std.specs.Prelude.{ℕ, Bool, false, cond, not, List, [], ◌∷◌, ◌++◌, Some, None, Ok, Err, Option, Result, ◌==◌}
 use Rattle.control.specs.declared.fields.Class.{Class}
 use Rattle.control.specs.declared.fields.Class.TheVariants as class
 use Rattle.control.specs.declared.fields.PortName.{PortName}
@@ -23,7 +23,7 @@ use Rattle.control.specs.declared.follower.Follower.TheVariants as follower
 use Rattle.control.specs.declared.fault.DecodeFault.{DecodeFault}
 use Rattle.control.specs.declared.fault.DecodeFault.TheVariants.{NoGroup, BadMode, BadTiming, BadInterruptControl, BadReadMask}
 use Rattle.control.specs.Numbers.{command_code}
-use Rattle.control.specs.Bits.{D0, D1, D2, D3, D4, D5, D6, D7, field, on}
+use Rattle.control.specs.Bits.{D2, D3, D4, D5, D6, field, on}
 
 -- WR6 holds the commands
 abbrev pub commands : List Command

@@ -1,5 +1,7 @@
 // Control bytes of a Z80 DMA channel, with no channel state: what each byte that
 // a CPU writes says, which followers it announces, and why it is refused.
+#![tactic(auto)]
+
 mod bits;
 pub mod census;
 pub mod decode;

@@ -10,8 +10,8 @@ use spaces::memory::split::Split;
 
 // Two writes to any memory.
 pub(crate) fn write_two<M: Memory>(memory: &mut M, address: u16, byte: u8)
-    ensures after { cells memory.new ≡ put (put (cells memory.old) address byte) 0 byte }
-    ensures frame { M.Memory.frame memory.new ≡ M.Memory.frame memory.old }
+    ensures after { M.cells memory.new ≡ put (put (M.cells memory.old) address byte) 0 byte }
+    ensures frame { M.frame memory.new ≡ M.frame memory.old }
 {
     memory.write(address, byte);
     memory.write(0, byte);

@@ -1,5 +1,7 @@
 // Examples of what the libraries do: one that is proved, and tests. The tests stand in a crate of their own, since a
 // crate with tests is proved twice. It uses every library below the programs.
+#![tactic(auto)]
+
 mod lending;
 #[cfg(test)]
 mod scripts_played;

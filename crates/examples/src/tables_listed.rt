@@ -60,7 +60,7 @@ fn words_that_are_no_bytes(rt: HostRuntime) -> Result<(), Fail> {
     match read_table(rt.alloc(), b"79 50\n\n 10 100 # 3 digits\nXY") {
         Err(ReadFault::NoByte { line, word }) => {
             assert_eq!(rt; line, 3);
-            assert_eq!(rt; word, b"100");
+            assert_eq!(rt; word, b"100".as_slice());
             Ok(())
         }
         _ => Err(Fail::new("read")),

@@ -11,7 +11,7 @@ use Rattle.registers.specs.declared.answer.Mark.TheVariants.{Unfinished}
 use Rattle.registers.specs.declared.latches.Latches.{Latches}
 use Rattle.registers.specs.declared.program.Program.{Program}
 use Rattle.registers.specs.declared.progress.Progress.{Progress}
-use Rattle.registers.specs.Bytes.{Step, step, step_on, read_step, write_step, latched, loaded, closed, counted, finished, finished_mark, is_last, pulsed, matches, taken_in, put_out}
+use Rattle.registers.specs.Bytes.{Step, step, step_on, read_step, latched, loaded, closed, counted, finished, finished_mark, is_last, pulsed, matches, taken_in, put_out}
 use Rattle.registers.specs.Contents.{Contents, byte_at, SameContents}
 use Rattle.registers.specs.Ports.{of_port, moved, loaded_destination, address_of, source_port, destination_port, source_counter, destination_counter}
 use Rattle.laws.specs.Boards.{InRange}

@@ -22,9 +22,9 @@ use Rattle.registers.specs.declared.row.Loan.TheVariants.{Closed, Master, Releas
 use Rattle.registers.specs.declared.row.Registers.{Registers}
 use Rattle.registers.specs.Calls.{State, write_call, table_call, status_call, open_call, cycle_call, run_call, return_call, acknowledge_call, reti_call}
 use Rattle.registers.specs.Chips.{Chip}
-use Rattle.registers.specs.Firsts.{enabled_by, enables, enabling, command_did, first_did, with_wr3}
+use Rattle.registers.specs.Firsts.{enabled_by, enables, enabling, with_wr3}
 use Rattle.registers.specs.Kept.{Kept, OnlySearch}
-use Rattle.registers.specs.Writes.{follower_set, sequenced, follower_did, control_did, decoded_did, write_did, wrote}
+use Rattle.registers.specs.Writes.{follower_set, sequenced, follower_did, decoded_did, write_did, wrote}
 use Rattle.laws.specs.Enabling.{EnablingByte, enable_command, enable_bit_alone, enable_bit_before, EnabledBy, Accepted, Found, SameBlock, EnablingsLeaveFound}
 use Rattle.laws.proofs.Writes.{wrote_kept}
 

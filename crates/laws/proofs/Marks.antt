@@ -11,9 +11,9 @@ use Rattle.registers.specs.declared.answer.Mark.TheVariants.{Unfinished}
 use Rattle.registers.specs.declared.program.Program.{Program}
 use Rattle.registers.specs.declared.progress.Progress.{Progress}
 use Rattle.registers.specs.declared.row.Registers.{Registers}
-use Rattle.registers.specs.Bytes.{step_on, read_step, write_step, is_last, matches}
+use Rattle.registers.specs.Bytes.{step_on, read_step, is_last, matches}
 use Rattle.registers.specs.Contents.{Contents}
-use Rattle.registers.specs.Cycles.{is_active, worked, paused, pause_kind, cycled_on, cycled}
+use Rattle.registers.specs.Cycles.{is_active, worked, pause_kind, cycled_on}
 use Rattle.registers.specs.Numbers.{finishes, is_read}
 use Rattle.laws.specs.Carried.{TransferReadsAreUnfinished}
 use Rattle.laws.proofs.Steps.{finished_finishes}

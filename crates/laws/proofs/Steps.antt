@@ -5,7 +5,7 @@ use Rattle.control.specs.declared.fields.Class.{Class}
 use Rattle.control.specs.declared.fields.Class.TheVariants.{Transfer, Search, Both}
 use Rattle.registers.specs.declared.program.Program.{Program}
 use Rattle.registers.specs.declared.progress.Progress.{Progress}
-use Rattle.registers.specs.Bytes.{Step, closed, finished, is_last, counted, finished_mark, step, step_on, read_step, write_step, taken_in, put_out, matches}
+use Rattle.registers.specs.Bytes.{Step, closed, finished, is_last, counted, finished_mark, step, step_on, read_step, taken_in, put_out, matches}
 use Rattle.registers.specs.Contents.{Contents}
 use Rattle.registers.specs.Numbers.{finishes, stops, final}
 

@@ -23,7 +23,7 @@ use Rattle.registers.specs.Bytes.{disabled}
 use Rattle.registers.specs.Chips.{Chip, at_progress, with_sequence}
 use Rattle.registers.specs.Firsts.{enabled_by, enables, enabling, starts_read_out, command_did, first_did, with_wr3}
 use Rattle.registers.specs.Kept.{Kept, InBlock, OnlySearch}
-use Rattle.registers.specs.Writes.{follower_set, sequenced, follower_did, control_did, decoded_did, write_did, wrote}
+use Rattle.registers.specs.Writes.{follower_set, sequenced, follower_did, decoded_did, write_did, wrote}
 use Rattle.laws.specs.Carried.{PowerOnIsKept}
 use Rattle.laws.specs.Enabling.{EnablingByte, enable_command, enable_bit_alone, enable_bit_before}
 use Rattle.laws.proofs.Decoding.{Fitting, FittingResult, first_fits, none_queued}

@@ -1,12 +1,10 @@
 -- A byte's read and its write: what they answer and do, whatever the mode, the timing, the waits, Ready and the loans. Assumes nothing.
-use Rattle.std.specs.Prelude.{ℕ, ◌+◌, ◌-◌, ◌%◌, Bool, true, false, cond, not, ◌&&◌, ◌||◌, Some, None, Option, ◌==◌, bit_and, bit_xor}
+use Rattle.std.specs.Prelude.{ℕ, ◌+◌, ◌-◌, ◌%◌, Bool, true, false, ◌&&◌, ◌||◌, Some, None, Option, ◌==◌, bit_and, bit_xor}
 use Rattle.control.specs.declared.fields.Class.{Class}
 use Rattle.control.specs.declared.fields.Class.TheVariants.{Transfer, Search, Both}
-use Rattle.control.specs.declared.fields.PortName.{PortName}
-use Rattle.control.specs.declared.fields.PortName.TheVariants as name
 use Rattle.control.specs.declared.fields.Space.{Space}
 use Rattle.registers.specs.declared.answer.Kind.{Kind}
-use Rattle.registers.specs.declared.answer.Kind.TheVariants.{Read, Write, Idle, Release}
+use Rattle.registers.specs.declared.answer.Kind.TheVariants.{Read, Write}
 use Rattle.registers.specs.declared.answer.Mark.{Mark}
 use Rattle.registers.specs.declared.answer.Mark.TheVariants as mark
 use Rattle.registers.specs.declared.latches.Latches.{Latches}

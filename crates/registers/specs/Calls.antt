@@ -1,6 +1,5 @@
 -- Opening a loan, a cycle, a run and a return; every call of a board, and lists of them. Assumes nothing.
 use Rattle.std.specs.Prelude.{ℕ, Bool, true, false, List, [], ◌∷◌, ◌++◌, length, Ok, Err, Result}
-use Rattle.control.specs.declared.fault.TableFault.{TableFault}
 use Rattle.control.specs.declared.fields.Level.{Level}
 use Rattle.registers.specs.declared.answer.Answer.{Answer}
 use Rattle.registers.specs.declared.fault.ChannelFault.{ChannelFault}
@@ -10,7 +9,6 @@ use Rattle.registers.specs.declared.outcome.Outcome.{Outcome}
 use Rattle.registers.specs.declared.outcome.Outcome.TheVariants as outcome
 use Rattle.registers.specs.declared.row.Loan.{Loan}
 use Rattle.registers.specs.declared.row.Loan.TheVariants.{Closed, Master, Released}
-use Rattle.registers.specs.declared.row.Registers.{Registers}
 use Rattle.registers.specs.Chips.{Chip, with_loan, with_registers, power_on}
 use Rattle.registers.specs.Contents.{Contents}
 use Rattle.registers.specs.Cycles.{Cycled, cycled, is_active}

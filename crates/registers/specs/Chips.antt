@@ -1,13 +1,11 @@
 -- A channel as a whole: its row of registers and the two records beside it; how each part is set; power-on. Assumes nothing.
-use Rattle.std.specs.Prelude.{ℕ, Bool, true, false, Some, None, Option}
+use Rattle.std.specs.Prelude.{Bool, false, None}
 use Rattle.control.specs.declared.fields.AddressRule.TheVariants.{Increment}
 use Rattle.control.specs.declared.fields.Class.TheVariants.{Transfer}
-use Rattle.control.specs.declared.fields.InterruptControl.{InterruptControl}
 use Rattle.control.specs.declared.fields.Level.TheVariants.{Low}
 use Rattle.control.specs.declared.fields.Mode.TheVariants as mode
 use Rattle.control.specs.declared.fields.PortName.TheVariants.{A}
 use Rattle.control.specs.declared.fields.Space.TheVariants.{Memory}
-use Rattle.control.specs.declared.follower.Followers.{Followers}
 use Rattle.control.specs.declared.follower.Followers.TheVariants.{Zero}
 use Rattle.registers.specs.declared.latches.Causes.{Causes}
 use Rattle.registers.specs.declared.latches.Latches.{Latches}

@@ -1,5 +1,5 @@
 -- What a board's two spaces hold, and what a byte's read and write make of it. Assumes nothing.
-use Rattle.std.specs.Prelude.{◌≡◌, ℕ, ◌<◌}
+use Rattle.std.specs.Prelude.{ℕ}
 use Rattle.control.specs.declared.fields.Space.{Space}
 use Rattle.control.specs.declared.fields.Space.TheVariants.{Memory, Io}
 use Rattle.spaces.specs.Cells.{Cells, SameCells, put}

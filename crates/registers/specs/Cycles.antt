@@ -7,7 +7,7 @@ use Rattle.control.specs.declared.fields.Mode.TheVariants as mode
 use Rattle.control.specs.declared.fields.Space.TheVariants.{Memory}
 use Rattle.registers.specs.declared.answer.Answer.{Answer}
 use Rattle.registers.specs.declared.answer.Kind.{Kind}
-use Rattle.registers.specs.declared.answer.Kind.TheVariants.{Read, Write, Idle, Release}
+use Rattle.registers.specs.declared.answer.Kind.TheVariants.{Idle, Release}
 use Rattle.registers.specs.declared.answer.Mark.{Mark}
 use Rattle.registers.specs.declared.answer.Mark.TheVariants.{Unfinished}
 use Rattle.registers.specs.declared.input.CycleInput.{CycleInput}
@@ -15,9 +15,9 @@ use Rattle.registers.specs.declared.latches.Latches.{Latches}
 use Rattle.registers.specs.declared.manner.Manner.{Manner}
 use Rattle.registers.specs.declared.progress.Progress.{Progress}
 use Rattle.registers.specs.declared.row.Loan.{Loan}
-use Rattle.registers.specs.declared.row.Loan.TheVariants.{Closed, Master, Released}
+use Rattle.registers.specs.declared.row.Loan.TheVariants.{Master, Released}
 use Rattle.registers.specs.declared.row.Registers.{Registers}
-use Rattle.registers.specs.Bytes.{Move, Step, step, latched}
+use Rattle.registers.specs.Bytes.{Move, step, latched}
 use Rattle.registers.specs.Contents.{Contents}
 use Rattle.registers.specs.Numbers.{finishes, final}
 use Rattle.registers.specs.Times.{time_of, timing_of}

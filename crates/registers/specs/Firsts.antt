@@ -1,9 +1,7 @@
 -- What an accepted first byte does, with no loan open. Assumes nothing.
-use Rattle.std.specs.Prelude.{ℕ, Bool, true, false, Some, None, Ok, Err, Option, Result, ◌==◌, nat_lt}
+use Rattle.std.specs.Prelude.{ℕ, Bool, true, false, None, Ok, Err, Result, ◌==◌, nat_lt}
 use Rattle.control.specs.declared.fields.AddressRule.{AddressRule}
 use Rattle.control.specs.declared.fields.Class.{Class}
-use Rattle.control.specs.declared.fields.Level.{Level}
-use Rattle.control.specs.declared.fields.Mode.{Mode}
 use Rattle.control.specs.declared.fields.PortName.{PortName}
 use Rattle.control.specs.declared.fields.Space.{Space}
 use Rattle.control.specs.declared.first.Command.{Command}
@@ -20,7 +18,6 @@ use Rattle.registers.specs.declared.program.Port.{Port}
 use Rattle.registers.specs.declared.program.Program.{Program}
 use Rattle.registers.specs.declared.program.Search.{Search}
 use Rattle.registers.specs.declared.program.Signals.{Signals}
-use Rattle.registers.specs.declared.read_out.ReadOut.{ReadOut}
 use Rattle.registers.specs.declared.row.Registers.{Registers}
 use Rattle.registers.specs.Bytes.{disabled, continued, loaded}
 use Rattle.registers.specs.Chips.{Chip, power_on, no_causes, with_program, with_manner, at_progress, with_latches, with_causes, with_service, with_sequence, with_registers, with_readout, forced_as, enabled_as}

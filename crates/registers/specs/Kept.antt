@@ -1,5 +1,5 @@
 -- What every channel keeps. Assumes nothing.
-use Rattle.std.specs.Prelude.{◌≡◌, ℕ, ◌<◌, ◌≤◌, Bool, true, false, ◌⊎◌, List, [], ◌∷◌, Some, None, Option}
+use Rattle.std.specs.Prelude.{◌≡◌, ◌<◌, ◌≤◌, true, false, ◌⊎◌, List, [], ◌∷◌, None}
 use Rattle.control.specs.Followers.{listed}
 use Rattle.control.specs.declared.fields.Class.TheVariants.{Search}
 use Rattle.control.specs.declared.follower.Follower.{Follower}

@@ -1,7 +1,6 @@
 -- T-cycles and waits. Assumes nothing.
-use Rattle.std.specs.Prelude.{ℕ, ◌+◌, Bool, true, false, cond, not, ◌&&◌, Some, None, Option}
+use Rattle.std.specs.Prelude.{ℕ, ◌+◌, Bool, true, false, cond, ◌&&◌, Some, None, Option}
 use Rattle.control.specs.Numbers.{t_cycles}
-use Rattle.control.specs.declared.fields.PortName.{PortName}
 use Rattle.control.specs.declared.fields.Space.{Space}
 use Rattle.control.specs.declared.fields.Space.TheVariants.{Memory, Io}
 use Rattle.control.specs.declared.fields.Timing.{Timing}

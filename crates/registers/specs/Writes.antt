@@ -1,5 +1,5 @@
 -- A control write and a table write: what a follower does, and what is refused, in order. Assumes nothing.
-use Rattle.std.specs.Prelude.{ℕ, ◌+◌, ◌*◌, ◌/◌, ◌%◌, Bool, true, false, List, [], ◌∷◌, Some, None, Ok, Err, Option, Result}
+use Rattle.std.specs.Prelude.{ℕ, ◌+◌, ◌*◌, ◌/◌, ◌%◌, Bool, true, false, List, [], ◌∷◌, Some, Ok, Err, Result}
 use Rattle.control.specs.Followers.{next_of}
 use Rattle.control.specs.Tables.{decoded}
 use Rattle.control.specs.declared.decoded.ControlByte.{ControlByte}
@@ -7,7 +7,6 @@ use Rattle.control.specs.declared.decoded.ControlByte.TheVariants as control
 use Rattle.control.specs.declared.decoded.Decoded.{Decoded}
 use Rattle.control.specs.declared.fault.DecodeFault.{DecodeFault}
 use Rattle.control.specs.declared.fault.TableFault.{TableFault}
-use Rattle.control.specs.declared.fields.InterruptControl.{InterruptControl}
 use Rattle.control.specs.declared.fields.Timing.{Timing}
 use Rattle.control.specs.declared.follower.FollowerByte.{FollowerByte}
 use Rattle.control.specs.declared.follower.FollowerByte.TheVariants as follower
@@ -16,9 +15,6 @@ use Rattle.registers.specs.declared.fault.ChannelFault.{ChannelFault}
 use Rattle.registers.specs.declared.fault.ChannelFault.TheVariants.{LoanOpen, Decode}
 use Rattle.registers.specs.declared.manner.Manner.{Manner}
 use Rattle.registers.specs.declared.program.Port.{Port}
-use Rattle.registers.specs.declared.program.Program.{Program}
-use Rattle.registers.specs.declared.program.Search.{Search}
-use Rattle.registers.specs.declared.program.Signals.{Signals}
 use Rattle.registers.specs.declared.read_out.ReadOut.{ReadOut}
 use Rattle.registers.specs.declared.row.Loan.{Loan}
 use Rattle.registers.specs.declared.row.Loan.TheVariants.{Closed, Master, Released}

@@ -1,6 +1,8 @@
 // What a channel remembers, and every rule of the channel as a definition.
 // The structs are plain rows, with no invariant in their types, nested by what touches them. It uses `control` for
 // what a control byte says and `spaces` for what a memory and a device space mean; specs/ has the rules.
+#![tactic(auto)]
+
 pub mod answer;
 pub mod fault;
 pub mod input;

@@ -1,6 +1,6 @@
 -- What a ring keeps, over the slots as a list, through a push.
 use Rattle.std.proofs.Common.{◌≡◌, ℕ, ◌+◌, ◌-◌, ◌<◌, ◌≤◌, Bool, true, false, cond, List, [], ◌∷◌, ◌++◌, length, take, drop, set, sym, arith, rules}
-use Rattle.std.proofs.lemmas.List.{append-nil, append_assoc, take_all, drop_all, take_more_set, drop-set-lt, drop_more, length-take, length_push, nil_from_length, places}
+use Rattle.std.proofs.lemmas.List.{append_assoc, take_all, drop_all, take_more_set, drop-set-lt, drop_more, length-take, length_push, nil_from_length, places}
 use Rattle.ring.specs.Kept.{last}
 
 module _ {T : Type 0} where

@@ -1,6 +1,8 @@
 // A ring over a lent slice of n elements, n from 0: it keeps the last n that were pushed.
 // It serves bytes in a device space's record and cycle answers in a log. It uses no other crate;
 // specs/Kept.antt says what it keeps.
+#![tactic(auto)]
+
 ghost use Rattle.std.specs.Prelude.{◌≡◌, ◌<◌, ◌≤◌, [], ◌∷◌, ◌++◌, length, take, drop, if◌then◌else◌, slice_set};
 ghost use Rattle.ring.specs.Kept.{last, kept, depth, slots_with};
 ghost use Rattle.std.specs.List.{slice_get};

@@ -10,7 +10,7 @@ use spaces::memory::boot_table::BootTable;
 use spaces::memory::lent_ram::LentRam;
 use spaces::memory::lock::Lock;
 use spaces::memory::split::Split;
-use std::fmt;
+use std::alloc::AllocError;
 
 // below the border a boot table, from it on lent RAM; over both a lock
 type BenchMemory<'a> = Lock<Split<BootTable, LentRam<'a>>>;
@@ -29,14 +29,14 @@ impl<'a> Bench<'a> {
     }
 
     // Does the command and prints its line.
-    pub(crate) fn play(&mut self, command: Command, out: &mut String) -> fmt::Result {
+    pub(crate) fn play(&mut self, command: Command, out: &mut String) -> Result<(), AllocError> {
         match command {
             Command::Access(access) => self.access(access, out),
             Command::Look(look) => self.look(look, out),
         }
     }
 
-    fn access(&mut self, access: Access, out: &mut String) -> fmt::Result {
+    fn access(&mut self, access: Access, out: &mut String) -> Result<(), AllocError> {
         match access {
             Access::Poke { address, byte } => {
                 self.memory.write(address, byte);
@@ -53,7 +53,7 @@ impl<'a> Bench<'a> {
         }
     }
 
-    fn look(&self, look: Look, out: &mut String) -> fmt::Result {
+    fn look(&self, look: Look, out: &mut String) -> Result<(), AllocError> {
         match look {
             Look::Memory { address, count } => self.look_at_memory(address, count, out),
             Look::Chute => self.look_at_chute(out),
@@ -62,7 +62,7 @@ impl<'a> Bench<'a> {
         }
     }
 
-    fn look_at_memory(&self, address: u16, count: u32, out: &mut String) -> fmt::Result {
+    fn look_at_memory(&self, address: u16, count: u32, out: &mut String) -> Result<(), AllocError> {
         write!(out, "(memory {address:04X}")?;
         let mut next = address;
         for _ in 0..count {
@@ -73,7 +73,7 @@ impl<'a> Bench<'a> {
         writeln!(out, ")")
     }
 
-    fn look_at_chute(&self, out: &mut String) -> fmt::Result {
+    fn look_at_chute(&self, out: &mut String) -> Result<(), AllocError> {
         let record = &self.devices.high.low;
         write!(out, "(chute")?;
         for i in 0..record.len() {
@@ -84,14 +84,14 @@ impl<'a> Bench<'a> {
         writeln!(out, ")")
     }
 
-    fn look_at_latch(&self, port: u8, out: &mut String) -> fmt::Result {
+    fn look_at_latch(&self, port: u8, out: &mut String) -> Result<(), AllocError> {
         match latched(&self.devices.high, port) {
             Some(byte) => writeln!(out, "(latch {port:02X} {byte:02X})"),
             None => writeln!(out, "(latch {port:02X})"),
         }
     }
 
-    fn look_at_labels(&self, out: &mut String) -> fmt::Result {
+    fn look_at_labels(&self, out: &mut String) -> Result<(), AllocError> {
         write!(out, "(waiting")?;
         for byte in self.devices.low.waiting() {
             let byte = *byte;

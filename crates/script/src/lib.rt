@@ -1,6 +1,8 @@
 // The script of `bench`: reading it whole, making its board's two spaces, playing it and printing what came.
 // It uses `spaces` and `text`. docs/bench-script.md is the language. Every function is proved safe and ending;
 // what a line means and what it prints is held by examples, those here and those that the program plays.
+#![tactic(auto)]
+
 mod bench;
 mod command;
 pub mod fault;

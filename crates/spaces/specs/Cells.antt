@@ -1,5 +1,5 @@
 -- What a memory means: a byte and a mark at each of 65,536 addresses. Assumes nothing.
-use Rattle.std.specs.Prelude.{◌≡◌, ℕ, ◌-◌, ◌<◌, Bool, false, cond, not, ◌&&◌, List, [], ◌∷◌, ◌++◌, length, ◌==◌, nat_le, nat_lt, slice_index, slice_set}
+use Rattle.std.specs.Prelude.{◌≡◌, ℕ, ◌-◌, ◌<◌, Bool, false, cond, not, ◌&&◌, List, [], ◌++◌, length, ◌==◌, nat_le, nat_lt, slice_index, slice_set}
 use Rattle.std.specs.Borrow.{GName}
 
 pub record Cells : Type 0 where

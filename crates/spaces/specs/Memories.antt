@@ -1,6 +1,6 @@
 -- What each memory of the crate means, and what it holds on loan. A layer's meaning takes that of what is below it. Assumes nothing.
 use Rattle.std.specs.Prelude.{◌-◌, [], ◌∷◌, drop}
-use Rattle.spaces.specs.Cells.{Cells, Lent, Frame, numbered, joined, ram, table, locked, parted}
+use Rattle.spaces.specs.Cells.{Cells, Frame, numbered, joined, ram, table, locked, parted}
 use Rattle.spaces.specs.declared.memory.lent_ram.LentRam.{LentRam}
 use Rattle.spaces.specs.declared.memory.boot_table.BootTable.{BootTable}
 use Rattle.spaces.specs.declared.memory.lock.Lock.{Lock}

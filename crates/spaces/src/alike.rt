@@ -9,10 +9,10 @@ use crate::memory::Memory;
 
 // The same byte and mark at each of the 65,536 addresses: the same meaning.
 pub fn memories_alike<M: Memory, N: Memory>(one: &M, other: &N)
-    ensures { SameCells (M.Memory.cells one.now) (N.Memory.cells other.now) → meaning (M.Memory.cells one.now) ≡ meaning (N.Memory.cells other.now) }
+    ensures { SameCells (M.cells one.now) (N.cells other.now) → meaning (M.cells one.now) ≡ meaning (N.cells other.now) }
 {}
 
 // The same lists, rest byte and depth at each of the 256 ports: the same meaning.
 pub fn devices_alike<D: DeviceSpace, E: DeviceSpace>(one: &D, other: &E)
-    ensures { SamePorts (D.DeviceSpace.ports one.now) (E.DeviceSpace.ports other.now) → ports_meaning (D.DeviceSpace.ports one.now) ≡ ports_meaning (E.DeviceSpace.ports other.now) }
+    ensures { SamePorts (D.ports one.now) (E.ports other.now) → ports_meaning (D.ports one.now) ≡ ports_meaning (E.ports other.now) }
 {}

@@ -1,8 +1,11 @@
 // Prints what a control table on standard input says, byte by byte. A word that is no byte ends it with status 1.
+#![tactic(auto)]
+
 use anyhow::anyhow;
 use listing::read::{ReadFault, read_table};
 use listing::write::listing;
 use std::io::{BufReader, Read};
+use std::process::ExitCode;
 use text::shown::Printable;
 
 fn standard_input(rt: &HostRuntime) -> anyhow::Result<Vec<u8>> {
@@ -11,19 +14,19 @@ fn standard_input(rt: &HostRuntime) -> anyhow::Result<Vec<u8>> {
     Ok(text)
 }
 
-fn print_listing(rt: &HostRuntime, bytes: &[u8]) -> anyhow::Result<()> {
+fn print_listing(rt: &HostRuntime, bytes: &[u8]) -> anyhow::Result<ExitCode> {
     rt.print(listing(rt.alloc(), bytes)?)?;
-    Ok(())
+    Ok(ExitCode::SUCCESS)
 }
 
-fn main(rt: HostRuntime) -> anyhow::Result<()> {
+fn main(rt: HostRuntime) -> anyhow::Result<ExitCode> {
     let text = standard_input(&rt)?;
     match read_table(rt.alloc(), text.as_slice()) {
         Ok(bytes) => print_listing(&rt, bytes.as_slice()),
         Err(ReadFault::NoByte { line, word }) => {
             let word = Printable(word);
             eprintln!(rt; "line {line}: no byte: {word}")?;
-            Err(anyhow!("no byte"))
+            Ok(ExitCode::FAILURE)
         }
         Err(ReadFault::Memory) => Err(anyhow!("out of memory")),
     }

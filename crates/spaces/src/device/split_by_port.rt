@@ -15,8 +15,8 @@ pub struct SplitByPort<L, H> {
 
 impl<L: DeviceSpace, H: DeviceSpace> SplitByPort<L, H> {
     pub fn new(low: L, high: H, border: u8) -> SplitByPort<L, H>
-        ensures meaning { splits_by_port L.DeviceSpace.ports H.DeviceSpace.ports result ≡ shared border (L.DeviceSpace.ports low) (H.DeviceSpace.ports high) }
-        ensures frame { split_by_port_frame L.DeviceSpace.frame H.DeviceSpace.frame result ≡ numbered (border ∷ []) (joined (L.DeviceSpace.frame low) (H.DeviceSpace.frame high)) }
+        ensures meaning { splits_by_port L.ports H.ports result ≡ shared border (L.ports low) (H.ports high) }
+        ensures frame { split_by_port_frame L.frame H.frame result ≡ numbered (border ∷ []) (joined (L.frame low) (H.frame high)) }
         ensures below { (result.low ≡ low) × (result.high ≡ high) }
     {
         SplitByPort { low, high, border }
@@ -31,9 +31,9 @@ impl<L: DeviceSpace, H: DeviceSpace> SplitByPort<L, H> {
 }
 
 impl<L: DeviceSpace, H: DeviceSpace> DeviceSpace for SplitByPort<L, H> {
-    ghost ports = { splits_by_port L.DeviceSpace.ports H.DeviceSpace.ports };
+    ghost ports = { splits_by_port L.ports H.ports };
 
-    ghost frame = { split_by_port_frame L.DeviceSpace.frame H.DeviceSpace.frame };
+    ghost frame = { split_by_port_frame L.frame H.frame };
 
     fn read(&mut self, port: u8) -> u8 {
         if self.is_low(port) {

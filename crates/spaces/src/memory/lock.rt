@@ -15,8 +15,8 @@ pub struct Lock<M> {
 impl<M: Memory> Lock<M> {
     // With the first address above the last, none is locked.
     pub fn new(memory: M, first: u16, last: u16) -> Lock<M>
-        ensures meaning { locks M.Memory.cells result ≡ locked first last (M.Memory.cells memory) }
-        ensures frame { lock_frame M.Memory.frame result ≡ numbered (first ∷ last ∷ []) (M.Memory.frame memory) }
+        ensures meaning { locks M.cells result ≡ locked first last (M.cells memory) }
+        ensures frame { lock_frame M.frame result ≡ numbered (first ∷ last ∷ []) (M.frame memory) }
         ensures below { result.memory ≡ memory }
     {
         Lock {
@@ -40,9 +40,9 @@ impl<M: Memory> Lock<M> {
 }
 
 impl<M: Memory> Memory for Lock<M> {
-    ghost cells = { locks M.Memory.cells };
+    ghost cells = { locks M.cells };
 
-    ghost frame = { lock_frame M.Memory.frame };
+    ghost frame = { lock_frame M.frame };
 
     fn read(&self, address: u16) -> u8 {
         self.memory.read(address)

@@ -14,8 +14,8 @@ pub struct Split<L, H> {
 
 impl<L: Memory, H: Memory> Split<L, H> {
     pub fn new(low: L, high: H, border: u16) -> Split<L, H>
-        ensures meaning { splits L.Memory.cells H.Memory.cells result ≡ parted border (L.Memory.cells low) (H.Memory.cells high) }
-        ensures frame { split_frame L.Memory.frame H.Memory.frame result ≡ numbered (border ∷ []) (joined (L.Memory.frame low) (H.Memory.frame high)) }
+        ensures meaning { splits L.cells H.cells result ≡ parted border (L.cells low) (H.cells high) }
+        ensures frame { split_frame L.frame H.frame result ≡ numbered (border ∷ []) (joined (L.frame low) (H.frame high)) }
         ensures below { (result.low ≡ low) × (result.high ≡ high) }
     {
         Split { low, high, border }
@@ -42,9 +42,9 @@ impl<L: Memory, H: Memory> Split<L, H> {
 }
 
 impl<L: Memory, H: Memory> Memory for Split<L, H> {
-    ghost cells = { splits L.Memory.cells H.Memory.cells };
+    ghost cells = { splits L.cells H.cells };
 
-    ghost frame = { split_frame L.Memory.frame H.Memory.frame };
+    ghost frame = { split_frame L.frame H.frame };
 
     fn read(&self, address: u16) -> u8 {
         if self.is_low(address) {

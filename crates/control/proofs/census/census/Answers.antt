@@ -10,7 +10,7 @@ one_more : (t : Census) (n : ℕ) (s : Result First DecodeFault) → t ≡ censu
 one_more t n s e f = rw (e, f, add-one)
 
 pub loop-byte-preserved : goal.loop-byte-preserved
-loop-byte-preserved c = (c.tally-census.ensures.counts ∙ one_more _ c.loop-byte.byte _ c.loop-byte.invariant.0 c.decode-first.ensures.said, c.tally-census.ensures.bound)
+loop-byte-preserved c = (c.tally-census.ensures.counts ∙ one_more _ c.loop-byte.byte _ c.loop-byte.invariant.0 c.decode_first.ensures.said, c.tally-census.ensures.bound)
 
 pub returns : goal.returns
 unfolding wr6_of

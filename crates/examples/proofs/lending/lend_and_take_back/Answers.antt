@@ -15,8 +15,8 @@ number i f = get_or f.numbers i 0
 pub returns : goal.returns
 unfolding number
 returns c =
-    let kept = c.write-two.ensures.frame ∙ c.new-memory.ensures.frame in
+    let kept = c.write_two.ensures.frame ∙ c.new-memory.ensures.frame in
     let border = ap (number 2) kept ∙ ap (number 0) c.new-2.ensures.frame in
     let first = ap (number 3) kept ∙ ap (number 1) c.new-2.ensures.frame ∙ c.new-ram.ensures.first in
-    let back = c.into-bytes.ensures.slice ∙ ap (λ m. m.bytes.now) (c.into-parts-ram.ensures.1 ∙ ap (λ m. m.high) c.into-memory.ensures) in
+    let back = c.into_bytes.ensures.slice ∙ ap (λ m. m.bytes.now) (c.into_parts-ram.ensures.1 ∙ ap (λ m. m.high) c.into_memory.ensures) in
     second_byte _ _ _ _ _ _ border first back c.read-shown.ensures

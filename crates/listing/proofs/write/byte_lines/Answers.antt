@@ -13,13 +13,13 @@ line_by_line w xs i d a ev el ea h = rw (ev, el, ea) (append_assoc w _ _ ∙ ap 
 
 pub returns-in-Err : goal.returns-in-Err
 returns-in-Err c =
-    let l = c.as-str.ensures.value ∙ c.in-ok-line.ensures ∙ ap (byte_line c.loop-place.place c.loop-place.due _) c.decode-answer.ensures in
-    sym (append-nil _) ∙ line_by_line (string_bytes c.loop-place.lines) c.args.bytes.now c.loop-place.place c.loop-place.due (Err _) c.in-ok-push-str.ensures.bytes l c.in-Err.ensures c.loop-place-test.true ∙ c.loop-place.invariant
+    let l = c.as_str.ensures.value ∙ c.in_ok-line.ensures ∙ ap (byte_line c.loop-place.place c.loop-place.due _) c.decode-answer.ensures in
+    sym (append-nil _) ∙ line_by_line (string_bytes c.loop-place.lines) c.args.bytes.now c.loop-place.place c.loop-place.due (Err _) c.in_ok-push_str.ensures.bytes l c.in-Err.ensures c.loop-place-test.true ∙ c.loop-place.invariant
 
 pub loop-place-preserved : goal.loop-place-preserved
 loop-place-preserved c =
-    let l = c.as-str.ensures.value ∙ c.in-ok-line.ensures ∙ ap (byte_line c.loop-place.place c.loop-place.due _) c.decode-answer.ensures in
-    line_by_line (string_bytes c.loop-place.lines) c.args.bytes.now c.loop-place.place c.loop-place.due (Ok _) c.in-ok-push-str.ensures.bytes l c.in-Ok.ensures c.loop-place-test.true ∙ c.loop-place.invariant
+    let l = c.as_str.ensures.value ∙ c.in_ok-line.ensures ∙ ap (byte_line c.loop-place.place c.loop-place.due _) c.decode-answer.ensures in
+    line_by_line (string_bytes c.loop-place.lines) c.args.bytes.now c.loop-place.place c.loop-place.due (Ok _) c.in_ok-push_str.ensures.bytes l c.in-Ok.ensures c.loop-place-test.true ∙ c.loop-place.invariant
 
 pub returns : goal.returns
 returns c = sym (append-nil _) ∙ ap (λ l. string_bytes c.loop-place.lines ++ l) (sym (at_drop_all (byte_lines c.loop-place.place c.loop-place.due) c.args.bytes.now c.loop-place.place c.loop-place-test.false)) ∙ c.loop-place.invariant

@@ -1,16 +1,10 @@
 -- Each is computed.
 use Rattle.std.proofs.Common.{refl}
 use Rattle.control.specs.Firsts.{wr6_of}
-use Rattle.registers.specs.Bytes.{step_on, read_step, write_step, finished, closed, matches, equal_where_0, latched}
+use Rattle.registers.specs.Bytes.{closed}
 use Rattle.registers.specs.Calls.{opened, open_did, events, state_at_end, does, events_of, state_after_all, event_on, state_on, run_answer}
-use Rattle.registers.specs.Contents.{byte_at, after_read, after_write}
-use Rattle.registers.specs.Cycles.{cycled, cycled_on, worked, paused, loan_after, pause_kind, loan_paused}
-use Rattle.registers.specs.Firsts.{first_did, command_did, enables, enabling, starts_read_out}
-use Rattle.registers.specs.Interrupts.{vector_of}
-use Rattle.registers.specs.Ports.{address_of, moved}
-use Rattle.registers.specs.Times.{time_of, timing_of, base_time, takes_waits}
 use Rattle.registers.specs.Worked.{how_many}
-use Rattle.registers.specs.Writes.{wrote, write_did, decoded_did, control_did, follower_did, table_did, table_next}
+use Rattle.registers.specs.Writes.{wrote, write_did, decoded_did, table_did, table_next}
 use Rattle.registers.proofs.worked.worked_cases_hold.Goals as goal
 
 pub returns : goal.returns

@@ -3,8 +3,8 @@ use Rattle.text.specs.Numerals.{at_most, value_after, radix_of}
 use Rattle.text.proofs.Values.{onward, over, at_end}
 use Rattle.text.proofs.numeral.value.Goals as goal
 
-pub returns-in-default : goal.returns-in-default
-returns-in-default c = onward _ c.args.most _ c.args.word.now _ _ _ c.loop-character-test.true c.in-default.ensures c.loop-character.invariant.1
+pub returns-in_default : goal.returns-in_default
+returns-in_default c = onward _ c.args.most _ c.args.word.now _ _ _ c.loop-character-test.true c.in_default.ensures c.loop-character.invariant.1
 
 pub returns-then-value-most : goal.returns-then-value-most
 returns-then-value-most c =
