@@ -1,5 +1,5 @@
 // What every accepted byte does, and enabling.
-ghost use Rattle.std.specs.Prelude.{◌≡◌, if◌then◌else◌, Ok, Err, nat_eq, nat_lt};
+ghost use Rattle.std.specs.Prelude.{◌≡◌, if◌then◌else◌, Ok, Err, ◌==◌, nat_lt};
 ghost use Rattle.registers.specs.declared.fault.ChannelFault.TheVariants.{LengthZero, CountAboveLength};
 ghost use Rattle.registers.specs.Firsts.{accepted, enabled_by};
 
@@ -20,7 +20,7 @@ pub(crate) fn accept(due: Followers, registers: &mut Registers)
 
 // Whether the channel may be enabled, or why not.
 pub(crate) fn may_enable(registers: &Registers) -> Result<(), ChannelFault>
-    ensures { result ≡ (if nat_eq registers.now.program.length 0 then Err LengthZero else (if nat_lt registers.now.program.length registers.now.progress.count then Err CountAboveLength else Ok tt)) }
+    ensures { result ≡ (if registers.now.program.length == 0 then Err LengthZero else (if nat_lt registers.now.program.length registers.now.progress.count then Err CountAboveLength else Ok tt)) }
 {
     if registers.program.length == 0 {
         Err(ChannelFault::LengthZero)

@@ -1,5 +1,5 @@
 // The seven read registers, the status byte and the read-out.
-ghost use Rattle.std.specs.Prelude.{◌≡◌, ◌≤◌, eqb, if◌then◌else◌, Ok, Err};
+ghost use Rattle.std.specs.Prelude.{◌≡◌, ◌≤◌, ◌==◌, if◌then◌else◌, Ok, Err};
 ghost use Rattle.registers.specs.declared.fault.ChannelFault.TheVariants.{RegisterUnread};
 ghost use Rattle.registers.specs.ReadOuts.{bit, status_byte, shown, lowest, read_next, unmarked, nothing_unread};
 
@@ -49,8 +49,8 @@ pub fn read_registers(level: Level, forced: bool, registers: &Registers) -> [u8;
 
 // A read-out is refused with a register unread; else these registers are marked unread.
 pub fn start_read_out(marks: u8, readout: &mut ReadOut) -> Result<(), ChannelFault>
-    ensures answer { result ≡ (if eqb readout.old.unread 0 then Ok tt else Err RegisterUnread) }
-    ensures readout { readout.new ≡ (if eqb readout.old.unread 0 then (record { mask = readout.old.mask; unread = marks }) else readout.old) }
+    ensures answer { result ≡ (if readout.old.unread == 0 then Ok tt else Err RegisterUnread) }
+    ensures readout { readout.new ≡ (if readout.old.unread == 0 then (record { mask = readout.old.mask; unread = marks }) else readout.old) }
 {
     if readout.unread != 0 {
         return Err(ChannelFault::RegisterUnread);
