@@ -87,7 +87,7 @@ impl From<AllocError> for PlayFault {
     }
 }
 
-// a line that is written to a String fails for want of memory alone
+// for a line that a caller formats: what fails there on the way to a String is want of memory alone
 impl From<fmt::Error> for PlayFault {
     fn from(_error: fmt::Error) -> PlayFault {
         PlayFault::NoMemory
