@@ -9,8 +9,7 @@ use crate::tally::Census;
 
 // The counts with one more answer; `done` answers were counted before.
 fn tally(census: Census, said: Result<First, DecodeFault>, done: u16) -> Census
-    requires below { done < 256 }
-    requires few { Few census done }
+    requires { (done < 256) × (Few census done) }
     ensures counts { result ≡ tallied census said }
     ensures bound { Few result (done + 1) }
 {
