@@ -7,9 +7,17 @@ module _ {T : Type 0} where
   abbrev pub last : ℕ → List T → List T
   last n xs = drop (length xs - n) xs
 
-  -- once it has wrapped, the oldest element stands where the next goes
+  -- what it keeps of the time before the last turn: once it has wrapped, the oldest element stands where the next goes
+  abbrev pub older : Ring T → List T
+  older r = cond r.wrapped (drop r.next r.slots.now) []
+
+  -- what was pushed since the last turn
+  abbrev pub newer : Ring T → List T
+  newer r = take r.next r.slots.now
+
+  -- all that it keeps, the oldest first
   abbrev pub kept : Ring T → List T
-  kept r = cond r.wrapped (drop r.next r.slots.now) [] ++ take r.next r.slots.now
+  kept r = older r ++ newer r
 
   -- how many it keeps at the most: one for each place of the lent slice
   abbrev pub depth : Ring T → ℕ

@@ -3,8 +3,8 @@
 // specs/Kept.antt says what it keeps.
 #![tactic(auto)]
 
-ghost use Rattle.std.specs.Prelude.{◌≡◌, ◌<◌, ◌≤◌, [], ◌∷◌, ◌++◌, length, take, drop, if◌then◌else◌, slice_set};
-ghost use Rattle.ring.specs.Kept.{last, kept, depth, slots_with};
+ghost use Rattle.std.specs.Prelude.{◌≡◌, ◌<◌, ◌≤◌, [], ◌∷◌, ◌++◌, length, slice_set};
+ghost use Rattle.ring.specs.Kept.{last, kept, older, newer, depth, slots_with};
 ghost use Rattle.std.specs.List.{slice_get};
 
 #[derive(Drop)]
@@ -12,7 +12,7 @@ pub struct Ring<'a, T> {
     slots: &'a mut [T],
     // where the next element goes; at the slice's end it goes to the start
     next: usize,
-    // whether every slot holds a pushed element
+    // whether every slot holds a pushed element: a flag, as an enum would carry `next` in each of its two cases
     wrapped: bool,
 }
 
@@ -42,23 +42,33 @@ impl<'a, T: Copy> Ring<'a, T> {
         self.put(x);
     }
 
+    // What it keeps, in two parts, each with its oldest first: those of before the last turn, then those pushed since.
+    pub fn as_slices(&self) -> (&[T], &[T])
+        ensures older { result.0.now ≡ older self.now }
+        ensures newer { result.1.now ≡ newer self.now }
+    {
+        let (newer, older) = self.slots.split_at(self.next.min(self.slots.len()));
+        if self.wrapped {
+            (older, newer)
+        } else {
+            (&[], newer)
+        }
+    }
+
     // How many elements it keeps.
     pub fn len(&self) -> usize
         ensures { result ≡ length (kept self.now) }
     {
-        let n = self.slots.len();
-        if self.wrapped || self.next >= n {
-            n
-        } else {
-            self.next
-        }
+        let (older, newer) = self.as_slices();
+        older.len() + newer.len()
     }
 
     // The i-th oldest, from 0, or nothing.
     pub fn get(&self, i: usize) -> Option<T>
         ensures { result ≡ slice_get (kept self.now) i }
     {
-        joined(self.older(), self.newer(), i)
+        let (older, newer) = self.as_slices();
+        joined(older, newer, i)
     }
 
     // From the slice's end back to its start: every slot now holds a pushed element.
@@ -80,34 +90,11 @@ impl<'a, T: Copy> Ring<'a, T> {
         ensures slice { self.new.slots.now ≡ slice_set self.old.slots.now self.old.next x }
         ensures lent { self.new.slots.ghost_name ≡ self.old.slots.ghost_name }
     {
+        // by index: tried with `get_mut`, after which the proof knows no element of a slice, and does not close
         let i = self.next;
         if i < self.slots.len() {
             self.slots[i] = x;
             self.next = i + 1;
-        }
-    }
-
-    // What it keeps of the time before the last turn, the oldest first.
-    fn older(&self) -> &[T]
-        ensures { result.now ≡ (if self.now.wrapped then drop self.now.next self.now.slots.now else []) }
-    {
-        let slots = &*self.slots;
-        if self.wrapped && self.next < slots.len() {
-            &slots[self.next..]
-        } else {
-            &[]
-        }
-    }
-
-    // What was pushed since the last turn.
-    fn newer(&self) -> &[T]
-        ensures { result.now ≡ take self.now.next self.now.slots.now }
-    {
-        let slots = &*self.slots;
-        if self.next < slots.len() {
-            &slots[0..self.next]
-        } else {
-            slots
         }
     }
 }
@@ -116,11 +103,8 @@ impl<'a, T: Copy> Ring<'a, T> {
 fn joined<T: Copy>(front: &[T], back: &[T], i: usize) -> Option<T>
     ensures { result ≡ slice_get (front.now ++ back.now) i }
 {
-    if i < front.len() {
-        Some(front[i])
-    } else if i - front.len() < back.len() {
-        Some(back[i - front.len()])
-    } else {
-        None
+    match i.checked_sub(front.len()) {
+        None => front.get(i).copied(),
+        Some(behind) => back.get(behind).copied(),
     }
 }
