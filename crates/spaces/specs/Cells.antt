@@ -1,5 +1,5 @@
 -- What a memory means: a byte and a mark at each of 65,536 addresses. Assumes nothing.
-use Rattle.std.specs.Prelude.{◌≡◌, ℕ, ◌-◌, ◌<◌, Bool, false, cond, not, ◌&&◌, List, [], ◌++◌, length, ◌==◌, nat_le, nat_lt, slice_index, slice_set}
+use Rattle.std.specs.Prelude.{◌≡◌, ℕ, ◌-◌, ◌<◌, Bool, false, cond, not, ◌&&◌, List, [], ◌++◌, length, ◌==◌, nat_le, nat_lt, Option, Some, None, slice_index, slice_set}
 use Rattle.std.specs.Borrow.{GName}
 
 pub record Cells : Type 0 where
@@ -22,6 +22,10 @@ put m a b = record { byte = λ k. cond (k == a && m.writable a) b (m.byte k); wr
 -- whether the address k, up to 65,535, lies among n addresses from f on
 abbrev pub among : ℕ → ℕ → ℕ → Bool
 among f n k = nat_le f k && nat_lt k 65536 && nat_lt (k - f) n
+
+-- the place of the address a in a slice of n bytes lent from the address f on
+abbrev pub place : ℕ → ℕ → ℕ → Option ℕ
+place f n a = cond (among f n a) (Some (a - f)) None
 
 -- lent RAM: address f + i shows byte i and is writable; all others show FFh and are not
 abbrev pub ram : ℕ → List ℕ → Cells

@@ -1,5 +1,6 @@
 // A space is what it shows at its addresses or ports: nothing else can tell two makes apart.
 // Functions with nothing to do, whose contracts say so of any two memories and any two device spaces.
+// Two, and not one over a trait of both kinds: that trait would be used here alone.
 ghost use Rattle.std.specs.Prelude.{◌≡◌};
 ghost use Rattle.spaces.specs.Cells.{SameCells, meaning};
 ghost use Rattle.spaces.specs.Ports.{SamePorts, meaning as ports_meaning};

@@ -1,6 +1,6 @@
 // A chute record: one port that keeps the last bytes written to it, in a ring over a lent slice. What the diverters saw.
 ghost use Rattle.std.specs.Prelude.{◌≡◌, [], length};
-ghost use Rattle.ring.specs.Kept.{kept};
+ghost use Rattle.ring.specs.Kept.{kept, older, newer};
 ghost use Rattle.spaces.specs.Devices.{sink, chute_record, chute_record_frame};
 ghost use Rattle.spaces.specs.Ports.{only};
 ghost use Rattle.std.specs.List.{slice_get};
@@ -31,6 +31,14 @@ impl<'a> ChuteRecord<'a> {
         ensures { result ≡ length (kept self.now.ring) }
     {
         self.ring.len()
+    }
+
+    // The bytes that it keeps, in two parts, each with its oldest first: those of before the ring's last turn, then those since.
+    pub fn as_slices(&self) -> (&[u8], &[u8])
+        ensures older { result.0.now ≡ older self.now.ring }
+        ensures newer { result.1.now ≡ newer self.now.ring }
+    {
+        self.ring.as_slices()
     }
 
     // The i-th oldest byte that it keeps, from 0, or nothing.

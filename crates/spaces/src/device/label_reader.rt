@@ -9,7 +9,7 @@ use crate::device::DeviceSpace;
 pub struct LabelReader<'a> {
     port: u8,
     labels: &'a [u8],
-    // how many bytes have been read
+    // how many bytes have been read: the waiting list is the unread part of a lent slice, held for reading with a cursor
     cursor: usize,
 }
 
@@ -29,21 +29,9 @@ impl<'a> LabelReader<'a> {
     pub fn waiting(&self) -> &[u8]
         ensures { label_reader self.now ≡ only self.now.port (source result.now) }
     {
-        if self.cursor < self.labels.len() {
-            self.labels.split_at(self.cursor).1
-        } else {
-            &[]
-        }
-    }
-
-    // The first byte that waits.
-    fn first(&self) -> Option<u8>
-        ensures { MatchOption result (drop self.now.cursor self.now.labels.now ≡ []) (λ b. (self.now.cursor < length self.now.labels.now) × (drop self.now.cursor self.now.labels.now ≡ b ∷ drop (self.now.cursor + 1) self.now.labels.now)) }
-    {
-        if self.cursor < self.labels.len() {
-            Some(self.labels[self.cursor])
-        } else {
-            None
+        match self.labels.get(self.cursor..) {
+            Some(waiting) => waiting,
+            None => &[],
         }
     }
 }
@@ -57,7 +45,7 @@ impl<'a> DeviceSpace for LabelReader<'a> {
         if port != self.port {
             return 0xff;
         }
-        match self.first() {
+        match self.labels.get(self.cursor).copied() {
             Some(byte) => {
                 self.cursor += 1;
                 byte

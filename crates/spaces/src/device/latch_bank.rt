@@ -26,8 +26,7 @@ impl LatchBank {
     pub fn latched(&self, port: u8) -> Option<u8>
         ensures { result ≡ slice_index_or self.now.held port None }
     {
-        let held = &self.held;
-        held[port as usize]
+        self.held[usize::from(port)]
     }
 }
 
@@ -37,10 +36,10 @@ impl DeviceSpace for LatchBank {
     ghost frame = { λ _. no_frame };
 
     fn read(&mut self, port: u8) -> u8 {
-        self.rests[port as usize]
+        self.rests[usize::from(port)]
     }
 
     fn write(&mut self, port: u8, byte: u8) {
-        self.held[port as usize] = Some(byte);
+        self.held[usize::from(port)] = Some(byte);
     }
 }

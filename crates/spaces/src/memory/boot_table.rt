@@ -24,8 +24,10 @@ impl Memory for BootTable {
     ghost frame = { λ _. no_frame };
 
     fn read(&self, address: u16) -> u8 {
-        let i = address as usize;
-        if i < 256 { self.bytes[i] } else { 0xff }
+        self.bytes
+            .get(usize::from(address))
+            .copied()
+            .unwrap_or(0xff)
     }
 
     fn write(&mut self, _address: u16, _byte: u8) {}

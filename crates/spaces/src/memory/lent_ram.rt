@@ -1,6 +1,6 @@
 // Lent RAM: a lent slice from a first address on. The part of it past the last address is never touched.
 ghost use Rattle.std.specs.Prelude.{◌≡◌, ◌+◌, ◌<◌, length, slice_set};
-ghost use Rattle.spaces.specs.Cells.{ram, stored, put};
+ghost use Rattle.spaces.specs.Cells.{ram, place, stored, put};
 ghost use Rattle.spaces.specs.Memories.{lent_ram, lent_ram_frame};
 
 use crate::memory::Memory;
@@ -26,20 +26,15 @@ impl<'a> LentRam<'a> {
         ensures slice { result.now ≡ self.entry.bytes.now }
         ensures lent { result.ghost_name ≡ self.entry.bytes.ghost_name }
     {
-        let LentRam { first: _, bytes } = self;
-        bytes
+        self.bytes
     }
 
-    // Writes a byte of the slice that an address shows.
-    fn store(&mut self, i: usize, byte: u8)
-        requires within { i < length self.old.bytes.now }
-        requires shown { self.old.first + i < 65536 }
-        ensures first { self.new.first ≡ self.old.first }
-        ensures slice { self.new.bytes.now ≡ slice_set self.old.bytes.now i byte }
-        ensures frame { lent_ram_frame self.new ≡ lent_ram_frame self.old }
-        ensures lent { self.new.bytes.ghost_name ≡ self.old.bytes.ghost_name }
+    // The place in the slice that an address shows, if it shows one.
+    fn place(&self, address: u16) -> Option<usize>
+        ensures { result ≡ place self.now.first (length self.now.bytes.now) address }
     {
-        self.bytes[i] = byte;
+        let i = usize::from(address.checked_sub(self.first)?);
+        (i < self.bytes.len()).then_some(i)
     }
 }
 
@@ -49,14 +44,9 @@ impl<'a> Memory for LentRam<'a> {
     ghost frame = { lent_ram_frame };
 
     fn read(&self, address: u16) -> u8 {
-        if address < self.first {
-            return 0xff;
-        }
-        let i = (address - self.first) as usize;
-        if i < self.bytes.len() {
-            self.bytes[i]
-        } else {
-            0xff
+        match self.place(address) {
+            Some(i) => self.bytes[i],
+            None => 0xff,
         }
     }
 
@@ -66,12 +56,8 @@ impl<'a> Memory for LentRam<'a> {
         ensures slice { self.new.bytes.now ≡ stored self.old.first self.old.bytes.now address byte }
         ensures lent { self.new.bytes.ghost_name ≡ self.old.bytes.ghost_name }
     {
-        if address < self.first {
-            return;
-        }
-        let i = (address - self.first) as usize;
-        if i < self.bytes.len() {
-            self.store(i, byte);
+        if let Some(i) = self.place(address) {
+            self.bytes[i] = byte;
         }
     }
 }

@@ -30,12 +30,7 @@ impl<M: Memory> Lock<M> {
     pub fn into_memory(self) -> M
         ensures { result ≡ self.memory }
     {
-        let Lock {
-            memory,
-            first: _,
-            last: _,
-        } = self;
-        memory
+        self.memory
     }
 }
 
