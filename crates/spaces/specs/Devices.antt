@@ -2,12 +2,12 @@
 use Rattle.std.specs.Prelude.{ℕ, List, [], ◌∷◌, drop, None, Option, slice_index, slice_index_or}
 use Rattle.ring.specs.Kept.{kept, depth}
 use Rattle.std.specs.Option.{option_to_list}
-use Rattle.spaces.specs.Cells.{Frame, no_frame, numbered, joined}
+use Rattle.spaces.specs.Cells.{Frame, no_frame, numbered}
 use Rattle.spaces.specs.Ports.{Port, only, shared}
 use Rattle.spaces.specs.declared.device.label_reader.LabelReader.{LabelReader}
 use Rattle.spaces.specs.declared.device.chute_record.ChuteRecord.{ChuteRecord}
 use Rattle.spaces.specs.declared.device.latch_bank.LatchBank.{LatchBank}
-use Rattle.spaces.specs.declared.device.split_by_port.SplitByPort.{SplitByPort}
+use Rattle.spaces.specs.declared.split.Split.{Split}
 
 -- a port at which the bytes xs wait
 abbrev pub source : List ℕ → Port
@@ -41,9 +41,5 @@ abbrev pub latch_bank : LatchBank → ℕ → Port
 latch_bank d = latches d.rests d.held
 
 module _ {L H : Type 0} (low : L → ℕ → Port) (high : H → ℕ → Port) where
-  abbrev pub splits_by_port : SplitByPort L H → ℕ → Port
+  abbrev pub splits_by_port : Split L H ℕ → ℕ → Port
   splits_by_port d = shared d.border (low d.low) (high d.high)
-
-module _ {L H : Type 0} (low : L → Frame) (high : H → Frame) where
-  abbrev pub split_by_port_frame : SplitByPort L H → Frame
-  split_by_port_frame d = numbered (d.border ∷ []) (joined (low d.low) (high d.high))

@@ -1,10 +1,10 @@
 -- What each memory of the crate means, and what it holds on loan. A layer's meaning takes that of what is below it. Assumes nothing.
-use Rattle.std.specs.Prelude.{◌-◌, [], ◌∷◌, drop}
-use Rattle.spaces.specs.Cells.{Cells, Frame, numbered, joined, ram, table, locked, parted}
+use Rattle.std.specs.Prelude.{ℕ, ◌-◌, [], ◌∷◌, drop}
+use Rattle.spaces.specs.Cells.{Cells, Frame, numbered, ram, table, locked, parted}
 use Rattle.spaces.specs.declared.memory.lent_ram.LentRam.{LentRam}
 use Rattle.spaces.specs.declared.memory.boot_table.BootTable.{BootTable}
 use Rattle.spaces.specs.declared.memory.lock.Lock.{Lock}
-use Rattle.spaces.specs.declared.memory.split.Split.{Split}
+use Rattle.spaces.specs.declared.split.Split.{Split}
 
 abbrev pub lent_ram : LentRam → Cells
 lent_ram m = ram m.first m.bytes.now
@@ -25,9 +25,5 @@ module _ {M : Type 0} (frame : M → Frame) where
   lock_frame m = numbered (m.first ∷ m.last ∷ []) (frame m.memory)
 
 module _ {L H : Type 0} (low : L → Cells) (high : H → Cells) where
-  abbrev pub splits : Split L H → Cells
+  abbrev pub splits : Split L H ℕ → Cells
   splits m = parted m.border (low m.low) (high m.high)
-
-module _ {L H : Type 0} (low : L → Frame) (high : H → Frame) where
-  abbrev pub split_frame : Split L H → Frame
-  split_frame m = numbered (m.border ∷ []) (joined (low m.low) (high m.high))

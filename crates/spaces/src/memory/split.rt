@@ -1,16 +1,12 @@
 // A split of the addresses between any two memories: those below the border are the one's, the rest the other's.
-ghost use Rattle.std.specs.Prelude.{◌≡◌, [], ◌∷◌, nat_lt};
+ghost use Rattle.std.specs.Prelude.{◌≡◌, [], ◌∷◌};
 ghost use Rattle.spaces.specs.Cells.{numbered, joined, parted};
-ghost use Rattle.spaces.specs.Memories.{splits, split_frame};
+ghost use Rattle.spaces.specs.Memories.{splits};
+ghost use Rattle.spaces.specs.Splits.{split_frame};
 
 use crate::memory::Memory;
 
-#[derive(Drop)]
-pub struct Split<L, H> {
-    low: L,
-    high: H,
-    border: u16,
-}
+pub type Split<L, H> = crate::split::Split<L, H, u16>;
 
 impl<L: Memory, H: Memory> Split<L, H> {
     pub fn new(low: L, high: H, border: u16) -> Split<L, H>
@@ -19,25 +15,6 @@ impl<L: Memory, H: Memory> Split<L, H> {
         ensures below { (result.low ≡ low) × (result.high ≡ high) }
     {
         Split { low, high, border }
-    }
-
-    // The two memories, back.
-    pub fn into_parts(self) -> (L, H)
-        ensures { (result.0 ≡ self.low) × (result.1 ≡ self.high) }
-    {
-        let Split {
-            low,
-            high,
-            border: _,
-        } = self;
-        (low, high)
-    }
-
-    // Whether the address is on the low side: the border itself is not.
-    fn is_low(&self, address: u16) -> bool
-        ensures { result ≡ nat_lt address self.now.border }
-    {
-        address < self.border
     }
 }
 
