@@ -44,7 +44,7 @@ impl<M: Memory> Memory for Lock<M> {
     }
 
     fn write(&mut self, address: u16, byte: u8) {
-        if address < self.first || self.last < address {
+        if !(self.first..=self.last).contains(&address) {
             self.memory.write(address, byte);
         }
     }
