@@ -12,7 +12,7 @@ use Rattle.control.specs.declared.fields.Level.TheVariants as level
 use Rattle.control.specs.declared.first.Command.TheVariants as command
 use Rattle.control.specs.Firsts.{group_of, wr6_of, decoded_first, group_said}
 use Rattle.control.specs.Tables.{ruled}
-use Rattle.control.specs.Laws.{says, Exact}
+use Rattle.control.specs.Laws.{says}
 use Rattle.control.proofs.Whole.{agree}
 
 -- where a byte has the bits of a meaning, it is decoded to it: over all bytes, for each meaning
@@ -22,57 +22,23 @@ decoded_if f b = cond (says f b) (decoded_first b) (Ok f)
 only : (f : First) → ruled (decoded_if f) 0 256 ≡ ruled (λ b. Ok f) 0 256
 unfolding wr6_of
 only (Wr0 class.Transfer port.A) = refl
-only (Wr0 class.Transfer port.B) = refl
 only (Wr0 class.Search port.A) = refl
-only (Wr0 class.Search port.B) = refl
 only (Wr0 class.Both port.A) = refl
-only (Wr0 class.Both port.B) = refl
 only (Wr1 space.Memory rule.Decrement) = refl
-only (Wr1 space.Memory rule.Increment) = refl
-only (Wr1 space.Memory rule.Fixed) = refl
 only (Wr1 space.Io rule.Decrement) = refl
-only (Wr1 space.Io rule.Increment) = refl
-only (Wr1 space.Io rule.Fixed) = refl
 only (Wr2 space.Memory rule.Decrement) = refl
-only (Wr2 space.Memory rule.Increment) = refl
-only (Wr2 space.Memory rule.Fixed) = refl
 only (Wr2 space.Io rule.Decrement) = refl
-only (Wr2 space.Io rule.Increment) = refl
-only (Wr2 space.Io rule.Fixed) = refl
-only (Wr3 false false false) = refl
-only (Wr3 false false true) = refl
-only (Wr3 false true false) = refl
-only (Wr3 false true true) = refl
-only (Wr3 true false false) = refl
-only (Wr3 true false true) = refl
-only (Wr3 true true false) = refl
 only (Wr3 true true true) = refl
+only (Wr3 true false true) = refl
+only (Wr3 false true true) = refl
+only (Wr3 false false true) = refl
 only (Wr4 mode.Byte) = refl
-only (Wr4 mode.Continuous) = refl
-only (Wr4 mode.Burst) = refl
-only (Wr5 level.Low false false) = refl
-only (Wr5 level.Low false true) = refl
-only (Wr5 level.Low true false) = refl
 only (Wr5 level.Low true true) = refl
-only (Wr5 level.High false false) = refl
-only (Wr5 level.High false true) = refl
-only (Wr5 level.High true false) = refl
+only (Wr5 level.Low false true) = refl
 only (Wr5 level.High true true) = refl
+only (Wr5 level.High false true) = refl
 only (Wr6 command.PowerOn) = refl
-only (Wr6 command.DefaultTimingA) = refl
-only (Wr6 command.DefaultTimingB) = refl
-only (Wr6 command.Load) = refl
-only (Wr6 command.Continue) = refl
-only (Wr6 command.InterruptsOff) = refl
-only (Wr6 command.InterruptsOn) = refl
-only (Wr6 command.InterruptsReset) = refl
-only (Wr6 command.Enable) = refl
-only (Wr6 command.Disable) = refl
-only (Wr6 command.ReadMask) = refl
-only (Wr6 command.StartReadOut) = refl
-only (Wr6 command.ReadStatus) = refl
-only (Wr6 command.ClearStatus) = refl
-only (Wr6 command.ForceReady) = refl
+only _ = refl
 
 -- the byte has the bits of what it is decoded to
 abbrev has : Result First DecodeFault → ℕ → Bool
@@ -86,11 +52,11 @@ own = refl
 chosen : (p : Bool) (r s : Result First DecodeFault) → cond p r s ≡ s → p ≡ true → r ≡ s
 chosen p r s e t = sym (ap (λ q. cond q r s) t) ∙ e
 
-pub exact : (b : ℕ) → b < 256 → Exact b (decoded_first b)
-exact b h f = (
-  chosen (says f b) (decoded_first b) (Ok f) (agree (decoded_if f) (λ _. Ok f) 256 (Ok f) (only f) b h),
-  λ e. sym (ap (λ r. has r b) e) ∙ agree (λ k. has (decoded_first k) k) (λ _. true) 256 true own b h,
-)
+pub said_if : (b : ℕ) → b < 256 → (f : First) → says f b ≡ true → decoded_first b ≡ Ok f
+said_if b h f = chosen (says f b) (decoded_first b) (Ok f) (agree (decoded_if f) (λ _. Ok f) 256 (Ok f) (only f) b h)
+
+pub says_if : (b : ℕ) → b < 256 → (f : First) → decoded_first b ≡ Ok f → says f b ≡ true
+says_if b h f e = sym (ap (λ r. has r b) e) ∙ agree (λ k. has (decoded_first k) k) (λ _. true) 256 true own b h
 
 -- decoding and the table agree on the group
 pub same_group : (b : ℕ) → b < 256 → group_said (decoded_first b) ≡ group_of b

@@ -1,5 +1,5 @@
 -- First bytes: their group, the followers that they announce, and what their bit fields say.
-use Rattle.std.specs.Prelude.{ℕ, Bool, false, cond, not, List, [], ◌∷◌, ◌++◌, Some, None, Ok, Err, Option, Result, ◌==◌}
+use Rattle.std.specs.Prelude.{ℕ, Bool, false, cond, not, List, [], ◌∷◌, ◌++◌, Some, None, Ok, Err, Option, Result, ok_or, ◌==◌}
 use Rattle.control.specs.declared.fields.Class.{Class}
 use Rattle.control.specs.declared.fields.Class.TheVariants as class
 use Rattle.control.specs.declared.fields.PortName.{PortName}
@@ -37,6 +37,10 @@ coded b (c ∷ cs) = cond (b == command_code c) (Some c) (coded b cs)
 -- the command whose code is b
 abbrev pub command_of : ℕ → Option Command
 command_of b = coded b commands
+
+-- the same as an answer: a byte that is no command's code is of no group
+abbrev pub command_said : ℕ → Result Command DecodeFault
+command_said b = ok_or (command_of b) NoGroup
 
 -- WR0: D7 = 0, D1 D0 not 00
 abbrev pub in_wr0 : ℕ → Bool

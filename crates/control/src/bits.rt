@@ -1,6 +1,7 @@
 // What the bit fields of a control byte say, each by itself.
+// Plain functions for the fields: a `From<u8>` would not say which bits of the byte it reads.
 ghost use Rattle.std.specs.Prelude.{◌≡◌};
-ghost use Rattle.control.specs.Firsts.{class_of, source_of, space_of, rule_of, ready_of, command_of, wr6_of};
+ghost use Rattle.control.specs.Firsts.{class_of, source_of, space_of, rule_of, ready_of, command_said, wr6_of};
 ghost use Rattle.control.specs.Followers.{timing_of, interrupt_control_of};
 
 use crate::fault::DecodeFault;
@@ -57,61 +58,74 @@ pub(crate) fn ready(byte: u8) -> Level
     }
 }
 
-fn command(byte: u8) -> Option<Command>
-    ensures { result ≡ command_of byte }
-{
-    match byte {
-        0xC3 => Some(Command::PowerOn),
-        0xC7 => Some(Command::DefaultTimingA),
-        0xCB => Some(Command::DefaultTimingB),
-        0xCF => Some(Command::Load),
-        0xD3 => Some(Command::Continue),
-        0xAF => Some(Command::InterruptsOff),
-        0xAB => Some(Command::InterruptsOn),
-        0xA3 => Some(Command::InterruptsReset),
-        0x87 => Some(Command::Enable),
-        0x83 => Some(Command::Disable),
-        0xBB => Some(Command::ReadMask),
-        0xA7 => Some(Command::StartReadOut),
-        0xBF => Some(Command::ReadStatus),
-        0x8B => Some(Command::ClearStatus),
-        0xB3 => Some(Command::ForceReady),
-        _ => None,
-    }
-}
-
 // A byte of none of the groups WR0 to WR5: a command, or nothing.
+#[tactic(auto, unfolding(crate::specs::Firsts::wr6_of))]
 pub(crate) fn wr6(byte: u8) -> Result<First, DecodeFault>
     ensures { result ≡ wr6_of byte }
 {
-    match command(byte) {
-        Some(command) => Ok(First::Wr6(command)),
-        None => Err(DecodeFault::NoGroup),
+    Ok(First::Wr6(Command::try_from(byte)?))
+}
+
+// From the command's code.
+impl TryFrom<u8> for Command {
+    type Error = DecodeFault;
+
+    ghost try_from_gives = { λ byte said. said ≡ command_said byte };
+
+    fn try_from(byte: u8) -> Result<Command, DecodeFault> {
+        match byte {
+            0xC3 => Ok(Command::PowerOn),
+            0xC7 => Ok(Command::DefaultTimingA),
+            0xCB => Ok(Command::DefaultTimingB),
+            0xCF => Ok(Command::Load),
+            0xD3 => Ok(Command::Continue),
+            0xAF => Ok(Command::InterruptsOff),
+            0xAB => Ok(Command::InterruptsOn),
+            0xA3 => Ok(Command::InterruptsReset),
+            0x87 => Ok(Command::Enable),
+            0x83 => Ok(Command::Disable),
+            0xBB => Ok(Command::ReadMask),
+            0xA7 => Ok(Command::StartReadOut),
+            0xBF => Ok(Command::ReadStatus),
+            0x8B => Ok(Command::ClearStatus),
+            0xB3 => Ok(Command::ForceReady),
+            _ => Err(DecodeFault::NoGroup),
+        }
     }
 }
 
-pub(crate) fn timing(byte: u8) -> Result<Timing, DecodeFault>
-    ensures { result ≡ timing_of byte }
-{
-    match byte & 0x03 {
-        0x00 => Ok(Timing::Four),
-        0x01 => Ok(Timing::Three),
-        0x02 => Ok(Timing::Two),
-        _ => Err(DecodeFault::BadTiming),
+// From the byte of a timing follower, whose other bits are forgotten.
+impl TryFrom<u8> for Timing {
+    type Error = DecodeFault;
+
+    ghost try_from_gives = { λ byte said. said ≡ timing_of byte };
+
+    fn try_from(byte: u8) -> Result<Timing, DecodeFault> {
+        match byte & 0x03 {
+            0x00 => Ok(Timing::Four),
+            0x01 => Ok(Timing::Three),
+            0x02 => Ok(Timing::Two),
+            _ => Err(DecodeFault::BadTiming),
+        }
     }
 }
 
-pub(crate) fn interrupt_control(byte: u8) -> Result<InterruptControl, DecodeFault>
-    ensures { result ≡ interrupt_control_of byte }
-{
-    if byte & 0xC0 == 0 {
-        Ok(InterruptControl {
-            on_match: byte & 0x01 != 0,
-            on_end: byte & 0x02 != 0,
-            pulses: byte & 0x04 != 0,
-            status_in_vector: byte & 0x20 != 0,
-        })
-    } else {
-        Err(DecodeFault::BadInterruptControl)
+// From the interrupt control byte.
+impl TryFrom<u8> for InterruptControl {
+    type Error = DecodeFault;
+
+    ghost try_from_gives = { λ byte said. said ≡ interrupt_control_of byte };
+
+    fn try_from(byte: u8) -> Result<InterruptControl, DecodeFault> {
+        if byte & 0xC0 == 0 {
+            Ok(InterruptControl {
+                on_match: byte & 0x01 != 0,
+                on_end: byte & 0x02 != 0,
+                pulses: byte & 0x04 != 0,
+                status_in_vector: byte & 0x20 != 0,
+            })
+        } else {
+            Err(DecodeFault::BadInterruptControl)
+        }
     }
 }

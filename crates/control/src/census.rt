@@ -1,44 +1,38 @@
 // A count of the first bytes, each of them decoded.
 ghost use Rattle.std.specs.Prelude.{◌≡◌, ◌+◌, ◌<◌};
+ghost use Rattle.control.specs.Firsts.{decoded_first};
 ghost use Rattle.control.specs.Counts.{census_below, tallied, Few};
 
 use crate::decode::decode_first;
 use crate::fault::DecodeFault;
-use crate::first::First;
 use crate::tally::Census;
 
-// The counts with one more answer; `done` answers were counted before.
-fn tally(census: Census, said: Result<First, DecodeFault>, done: u16) -> Census
-    requires { (done < 256) × (Few census done) }
-    ensures counts { result ≡ tallied census said }
-    ensures bound { Few result (done + 1) }
+// The counts of the first bytes below this one, with this one's answer.
+fn tally(census: Census, byte: u8) -> Census
+    requires { Few census byte }
+    ensures counts { result ≡ tallied census (decoded_first byte) }
+    ensures bound { Few result (byte + 1) }
 {
-    let Census {
-        grouped,
-        bad_mode,
-        ungrouped,
-    } = census;
-    match said {
+    match decode_first(byte) {
         Ok(_) => Census {
-            grouped: grouped + 1,
-            bad_mode,
-            ungrouped,
+            grouped: census.grouped + 1,
+            ..census
         },
         Err(DecodeFault::NoGroup) => Census {
-            grouped,
-            bad_mode,
-            ungrouped: ungrouped + 1,
+            ungrouped: census.ungrouped + 1,
+            ..census
         },
         Err(DecodeFault::BadMode) => Census {
-            grouped: grouped + 1,
-            bad_mode: bad_mode + 1,
-            ungrouped,
+            grouped: census.grouped + 1,
+            bad_mode: census.bad_mode + 1,
+            ..census
         },
         Err(_) => census,
     }
 }
 
 // The 256 first bytes.
+#[tactic(auto, using(crate::proofs::Counting::one_more, crate::proofs::Counting::whole))]
 pub fn census() -> Census
     ensures counts { result ≡ census_below 256 }
     ensures numbers { result ≡ record { grouped = 215; bad_mode = 8; ungrouped = 41 } }
@@ -48,8 +42,8 @@ pub fn census() -> Census
         bad_mode: 0,
         ungrouped: 0,
     };
-    for byte in 0..256 {
-        census = tally(census, decode_first(byte as u8), byte);
+    for byte in 0..=u8::MAX {
+        census = tally(census, byte);
     }
     census
 }

@@ -9,27 +9,23 @@ ghost use Rattle.control.specs.Tables.{entry_of, ruled, due_after, decoded, at_p
 use crate::bits::*;
 use crate::decoded::{ControlByte, Decoded};
 use crate::fault::{DecodeFault, TableFault};
-use crate::fields::Mode;
+use crate::fields::{InterruptControl, Mode, Timing};
 use crate::first::First;
 use crate::follower::{Follower, FollowerByte, Followers};
 use crate::table::{Entry, TABLE};
-
-// The table, whose rule holds over the whole of it.
-fn whole_table() -> &'static [Entry; 256]
-    ensures { result.now ≡ ruled entry_of 0 256 }
-{
-    &TABLE
-}
 
 // The group of a first byte and the followers it announces, as the table has them.
 pub fn entry(byte: u8) -> Entry
     ensures whole { result ≡ entry_of byte }
     ensures order { listed result.followers ≡ followers_of byte }
 {
-    whole_table()[byte as usize]
+    // lent, not copied
+    let table = &TABLE;
+    table[byte as usize]
 }
 
 // What a first byte says: exactly the meaning whose bits it has.
+#[tactic(auto, using(crate::proofs::Exactly::said_if, crate::proofs::Exactly::says_if, crate::proofs::Exactly::same_group))]
 pub fn decode_first(byte: u8) -> Result<First, DecodeFault>
     ensures said { result ≡ decoded_first byte }
     ensures group { group_said result ≡ group_of byte }
@@ -84,13 +80,13 @@ pub fn decode_follower(follower: Follower, byte: u8) -> Result<FollowerByte, Dec
         Follower::AHigh => Ok(FollowerByte::AHigh(byte)),
         Follower::LengthLow => Ok(FollowerByte::LengthLow(byte)),
         Follower::LengthHigh => Ok(FollowerByte::LengthHigh(byte)),
-        Follower::ATiming => Ok(FollowerByte::ATiming(timing(byte)?)),
-        Follower::BTiming => Ok(FollowerByte::BTiming(timing(byte)?)),
+        Follower::ATiming => Ok(FollowerByte::ATiming(Timing::try_from(byte)?)),
+        Follower::BTiming => Ok(FollowerByte::BTiming(Timing::try_from(byte)?)),
         Follower::Mask => Ok(FollowerByte::Mask(byte)),
         Follower::Match => Ok(FollowerByte::Match(byte)),
         Follower::BLow => Ok(FollowerByte::BLow(byte)),
         Follower::BHigh => Ok(FollowerByte::BHigh(byte)),
-        Follower::Interrupt => Ok(FollowerByte::Interrupt(interrupt_control(byte)?)),
+        Follower::Interrupt => Ok(FollowerByte::Interrupt(InterruptControl::try_from(byte)?)),
         Follower::Pulse => Ok(FollowerByte::Pulse(byte)),
         Follower::Vector => Ok(FollowerByte::Vector(byte)),
         Follower::ReadMask if byte & 0x80 == 0 => Ok(FollowerByte::ReadMask(byte)),
@@ -147,14 +143,13 @@ pub fn decode(due: Followers, byte: u8) -> Result<Decoded, DecodeFault>
 fn decode_at(place: usize, due: Followers, byte: u8) -> Result<Followers, TableFault<DecodeFault>>
     ensures { result ≡ at_place place due (decoded due byte) }
 {
-    match decode(due, byte) {
-        Ok(taken) => Ok(taken.due),
-        Err(fault) => Err(TableFault {
+    decode(due, byte)
+        .map(|taken| taken.due)
+        .map_err(|fault| TableFault {
             place,
             due: due.next(),
             fault,
-        }),
-    }
+        })
 }
 
 // A table of control bytes, from no follower due: those due at its end.

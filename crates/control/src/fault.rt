@@ -1,7 +1,7 @@
 // Why a control byte is refused, and where in a table of them.
 use crate::follower::Follower;
 
-#[derive(Clone, Copy)]
+#[derive(Clone, Copy, Debug, PartialEq, Eq)]
 pub enum DecodeFault {
     // a first byte of no group, and no command
     NoGroup,
@@ -17,7 +17,7 @@ pub enum DecodeFault {
 
 // The first refused byte of a table: its place from 0, which follower was due
 // there (`None`: a first byte was), and the byte's own fault whole.
-#[derive(Clone, Copy)]
+#[derive(Clone, Copy, Debug, PartialEq, Eq)]
 pub struct TableFault<F> {
     pub place: usize,
     pub due: Option<Follower>,

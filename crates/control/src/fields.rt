@@ -1,7 +1,7 @@
 // What the bit fields of control bytes say, as the sheet names them.
 
 // What a channel does with each byte of a block.
-#[derive(Clone, Copy, PartialEq, Eq)]
+#[derive(Clone, Copy, Debug, PartialEq, Eq)]
 pub enum Class {
     Transfer,
     Search,
@@ -9,20 +9,20 @@ pub enum Class {
     Both,
 }
 
-#[derive(Clone, Copy, PartialEq, Eq)]
+#[derive(Clone, Copy, Debug, PartialEq, Eq)]
 pub enum PortName {
     A,
     B,
 }
 
-#[derive(Clone, Copy, PartialEq, Eq)]
+#[derive(Clone, Copy, Debug, PartialEq, Eq)]
 pub enum Space {
     Memory,
     Io,
 }
 
 // How a port's counter moves after each byte.
-#[derive(Clone, Copy, PartialEq, Eq)]
+#[derive(Clone, Copy, Debug, PartialEq, Eq)]
 pub enum AddressRule {
     Decrement,
     Increment,
@@ -30,7 +30,7 @@ pub enum AddressRule {
 }
 
 // How the channel holds the buses.
-#[derive(Clone, Copy, PartialEq, Eq)]
+#[derive(Clone, Copy, Debug, PartialEq, Eq)]
 pub enum Mode {
     Byte,
     Continuous,
@@ -38,14 +38,14 @@ pub enum Mode {
 }
 
 // The level of a line.
-#[derive(Clone, Copy, PartialEq, Eq)]
+#[derive(Clone, Copy, Debug, PartialEq, Eq)]
 pub enum Level {
     Low,
     High,
 }
 
 // A port's programmed length of a bus cycle, in T-cycles.
-#[derive(Clone, Copy, PartialEq, Eq)]
+#[derive(Clone, Copy, Debug, PartialEq, Eq)]
 pub enum Timing {
     Two,
     Three,
@@ -53,7 +53,7 @@ pub enum Timing {
 }
 
 // The interrupt control byte.
-#[derive(Clone, Copy, PartialEq, Eq)]
+#[derive(Clone, Copy, Debug, PartialEq, Eq)]
 pub struct InterruptControl {
     pub on_match: bool,
     pub on_end: bool,

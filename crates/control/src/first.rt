@@ -2,7 +2,7 @@
 use crate::fields::{AddressRule, Class, Level, Mode, PortName, Space};
 
 // The seven groups of write registers.
-#[derive(Clone, Copy)]
+#[derive(Clone, Copy, Debug, PartialEq, Eq)]
 pub enum Group {
     Wr0,
     Wr1,
@@ -14,7 +14,7 @@ pub enum Group {
 }
 
 // The commands of WR6.
-#[derive(Clone, Copy)]
+#[derive(Clone, Copy, Debug, PartialEq, Eq)]
 pub enum Command {
     PowerOn,
     DefaultTimingA,
@@ -37,7 +37,7 @@ pub enum Command {
 
 // A first byte by its group, with what its bit fields say. Which followers it
 // announces stands in the table.
-#[derive(Clone, Copy)]
+#[derive(Clone, Copy, Debug, PartialEq, Eq)]
 pub enum First {
     Wr0 {
         class: Class,

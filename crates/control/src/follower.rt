@@ -4,7 +4,7 @@ ghost use Rattle.control.specs.Followers.{next_of, rest_of, in_front};
 
 use crate::fields::{InterruptControl, Timing};
 
-#[derive(Clone, Copy)]
+#[derive(Clone, Copy, Debug, PartialEq, Eq)]
 pub enum Follower {
     ALow,
     AHigh,
@@ -23,7 +23,8 @@ pub enum Follower {
 }
 
 // The followers still due, in their order: never more than four.
-#[derive(Clone, Copy)]
+// Cases, and no `Vec`: this crate allocates nothing, and a fifth can't be written down.
+#[derive(Clone, Copy, Debug, PartialEq, Eq)]
 pub enum Followers {
     Zero,
     One(Follower),
@@ -74,7 +75,7 @@ impl Followers {
 }
 
 // A follower with what it carries.
-#[derive(Clone, Copy)]
+#[derive(Clone, Copy, Debug, PartialEq, Eq)]
 pub enum FollowerByte {
     ALow(u8),
     AHigh(u8),

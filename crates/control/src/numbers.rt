@@ -6,6 +6,7 @@ use crate::fault::DecodeFault;
 use crate::fields::Timing;
 
 impl DecodeFault {
+    // Named, and no `From`: `u8::from(fault)` would not say that it is the refusal's number.
     pub fn number(self) -> u8
         ensures { result ≡ fault_number self }
     {
@@ -20,6 +21,7 @@ impl DecodeFault {
 }
 
 impl Timing {
+    // Named, and no `From`: a timing stands for two numbers, its bits and its T-cycles.
     pub fn t_cycles(self) -> u8
         ensures { result ≡ t_cycles self }
     {

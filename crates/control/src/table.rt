@@ -5,14 +5,14 @@ use crate::follower::Follower::*;
 use crate::follower::Followers;
 use crate::follower::Followers::*;
 
-#[derive(Clone, Copy)]
+#[derive(Clone, Copy, Debug, PartialEq, Eq)]
 pub struct Entry {
     pub group: Option<Group>,
     pub followers: Followers,
 }
 
 #[rattlefmt::skip]
-pub static TABLE: [Entry; 256] = [
+pub const TABLE: [Entry; 256] = [
     Entry { group: Some(Wr2), followers: Zero }, // 00
     Entry { group: Some(Wr0), followers: Zero }, // 01
     Entry { group: Some(Wr0), followers: Zero }, // 02

@@ -1,6 +1,6 @@
 // How the first bytes divide.
 
-#[derive(Clone, Copy)]
+#[derive(Clone, Copy, Debug, PartialEq, Eq)]
 pub struct Census {
     // of a group or a command, those with the mode that is not allowed among them
     pub grouped: u16,
