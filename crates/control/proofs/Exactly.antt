@@ -19,6 +19,7 @@ use Rattle.control.proofs.Whole.{agree}
 abbrev decoded_if : First → ℕ → Result First DecodeFault
 decoded_if f b = cond (says f b) (decoded_first b) (Ok f)
 
+-- a clause for each fork of the cases, of which the last clause takes what is left
 only : (f : First) → ruled (decoded_if f) 0 256 ≡ ruled (λ b. Ok f) 0 256
 unfolding wr6_of
 only (Wr0 class.Transfer port.A) = refl
@@ -49,11 +50,8 @@ own : ruled (λ b. has (decoded_first b) b) 0 256 ≡ ruled (λ b. true) 0 256
 unfolding wr6_of
 own = refl
 
-chosen : (p : Bool) (r s : Result First DecodeFault) → cond p r s ≡ s → p ≡ true → r ≡ s
-chosen p r s e t = sym (ap (λ q. cond q r s) t) ∙ e
-
 pub said_if : (b : ℕ) → b < 256 → (f : First) → says f b ≡ true → decoded_first b ≡ Ok f
-said_if b h f = chosen (says f b) (decoded_first b) (Ok f) (agree (decoded_if f) (λ _. Ok f) 256 (Ok f) (only f) b h)
+said_if b h f e = sym (ap (λ q. cond q (decoded_first b) (Ok f)) e) ∙ agree (decoded_if f) (λ _. Ok f) 256 (Ok f) (only f) b h
 
 pub says_if : (b : ℕ) → b < 256 → (f : First) → decoded_first b ≡ Ok f → says f b ≡ true
 says_if b h f e = sym (ap (λ r. has r b) e) ∙ agree (λ k. has (decoded_first k) k) (λ _. true) 256 true own b h

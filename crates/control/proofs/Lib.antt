@@ -1,3 +1,4 @@
 pub mod Whole
 pub mod Exactly
 pub mod Counting
+pub mod Entries

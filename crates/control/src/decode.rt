@@ -129,13 +129,10 @@ pub fn decode(due: Followers, byte: u8) -> Result<Decoded, DecodeFault>
             control: ControlByte::First(decode_first(byte)?),
             due: entry(byte).followers,
         }),
-        Some(follower) => {
-            let control = ControlByte::Follower(decode_follower(follower, byte)?);
-            Ok(Decoded {
-                control,
-                due: due_after(follower, byte, due.rest()),
-            })
-        }
+        Some(follower) => Ok(Decoded {
+            control: ControlByte::Follower(decode_follower(follower, byte)?),
+            due: due_after(follower, byte, due.rest()),
+        }),
     }
 }
 
