@@ -1,7 +1,11 @@
 // What a cycle answers.
-use control::fields::Space;
+ghost use Rattle.std.specs.Prelude.{Some};
+ghost use Rattle.registers.specs.Words.{kind_word};
 
-#[derive(Clone, Copy)]
+use control::fields::Space;
+use std::fmt;
+
+#[derive(Clone, Copy, Debug, PartialEq, Eq)]
 pub enum Kind {
     Read,
     Write,
@@ -10,8 +14,16 @@ pub enum Kind {
     Release,
 }
 
+impl fmt::Display for Kind {
+    ghost output = { λ kind. Some (kind_word kind) };
+
+    fn fmt<W: fmt::Write>(&self, f: &mut fmt::Formatter<W>) -> fmt::Result {
+        f.write_str(self.word())
+    }
+}
+
 // What a cycle finished.
-#[derive(Clone, Copy)]
+#[derive(Clone, Copy, Debug, PartialEq, Eq)]
 pub enum Mark {
     Unfinished,
     Finished,
@@ -21,7 +33,7 @@ pub enum Mark {
     Both,
 }
 
-#[derive(Clone, Copy)]
+#[derive(Clone, Copy, PartialEq, Eq)]
 pub struct Answer {
     pub kind: Kind,
     pub space: Space,

@@ -1,12 +1,12 @@
 // The status latches, and the causes of an interrupt.
 
-#[derive(Clone, Copy)]
+#[derive(Clone, Copy, Debug, PartialEq, Eq)]
 pub struct Causes {
     pub matched: bool,
     pub ended: bool,
 }
 
-#[derive(Clone, Copy)]
+#[derive(Clone, Copy, Debug, PartialEq, Eq)]
 pub struct Latches {
     pub moved: bool,
     pub matched: bool,

@@ -8,6 +8,7 @@ use crate::fault::ChannelFault;
 use crate::row::Loan;
 
 impl ChannelFault {
+    // The number in the board's list of refusals. `u8::from` would not say of which list.
     pub fn number(self) -> u8
         ensures { result ≡ refusal_number self }
     {
@@ -29,6 +30,7 @@ impl ChannelFault {
 }
 
 impl Mark {
+    // The number in the board's list of marks. `u8::from` would not say of which list.
     pub fn number(self) -> u8
         ensures { result ≡ mark_number self }
     {
@@ -43,6 +45,7 @@ impl Mark {
 }
 
 impl Kind {
+    // The word that its `Display` prints; taking it cannot fail, as printing can.
     pub fn word(self) -> &'static str
         ensures { result.now ≡ kind_word self }
     {
@@ -56,6 +59,7 @@ impl Kind {
 }
 
 impl Loan {
+    // The word that its `Display` prints; taking it cannot fail, as printing can.
     pub fn word(self) -> &'static str
         ensures { result.now ≡ loan_word self }
     {
