@@ -3,13 +3,11 @@ use Rattle.std.specs.Prelude.{ℕ, Ok, Err, Result}
 use Rattle.spaces.specs.Cells.{Cells}
 use Rattle.spaces.specs.Ports.{Port}
 use Rattle.registers.specs.declared.answer.Answer.{Answer}
+use Rattle.registers.specs.declared.chip.Chip.{Chip}
 use Rattle.registers.specs.declared.fault.ChannelFault.{ChannelFault}
 use Rattle.registers.specs.declared.progress.Progress.{Progress}
-use Rattle.registers.specs.declared.read_out.Forcing.{Forcing}
-use Rattle.registers.specs.declared.read_out.ReadOut.{ReadOut}
 use Rattle.registers.specs.declared.row.Registers.{Registers}
 use Rattle.registers.specs.Bytes.{Move, Step}
-use Rattle.registers.specs.Chips.{Chip}
 use Rattle.registers.specs.Contents.{Contents}
 use Rattle.registers.specs.Cycles.{Cycled}
 use Rattle.registers.specs.Writes.{Done}
@@ -30,10 +28,6 @@ step_of s k c = record { move = move_of s.made; matched = s.matched; progress = 
 -- a cycle's answer with what it leaves
 abbrev pub cycled_of : Answer → Registers → Contents → Cycled
 cycled_of a r c = record { answer = a; registers = r; contents = c }
-
--- a channel of the three records that hold it
-abbrev pub chip_of : Registers → ReadOut → Forcing → Chip
-chip_of r o f = record { registers = r; readout = o; forcing = f }
 
 -- a part's answer with the channel after it
 abbrev pub done_of : Result (Unit {0}) ChannelFault → Chip → Done (Result (Unit {0}) ChannelFault)

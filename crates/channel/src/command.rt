@@ -1,18 +1,18 @@
 // The commands of WR6.
 ghost use Rattle.std.specs.Prelude.{◌≡◌, false};
-ghost use Rattle.channel.specs.Values.{chip_of, done_of, answered};
+ghost use Rattle.channel.specs.Values.{done_of, answered};
 ghost use Rattle.registers.specs.Chips.{no_causes, with_causes, with_latches, with_service};
 ghost use Rattle.registers.specs.Firsts.{status_cleared, command_did};
 
 use crate::enabling::{accept, enable_by, may_enable};
 use crate::loading::{continue_count, load};
-use crate::power_on::power_on;
+use crate::power_on::chip_at_power_on;
 use crate::read_out::start_read_out;
 use control::first::Command;
 use control::follower::Followers;
+use registers::chip::Chip;
 use registers::fault::ChannelFault;
 use registers::latches::{Causes, Latches};
-use registers::read_out::{Forcing, ReadOut};
 use registers::row::{Registers, Service};
 
 // Interrupts off, causes and service cleared.
@@ -41,22 +41,21 @@ fn clear_status(latches: &mut Latches)
 pub(crate) fn apply_command(
     command: Command,
     due: Followers,
-    registers: &mut Registers,
-    readout: &mut ReadOut,
-    forcing: &mut Forcing,
+    chip: &mut Chip,
 ) -> Result<(), ChannelFault>
-    ensures { done_of result (chip_of registers.new readout.new forcing.new) ≡ answered (command_did command due (chip_of registers.old readout.old forcing.old)) (chip_of registers.old readout.old forcing.old) }
+    ensures { done_of result chip.new ≡ answered (command_did command due chip.old) chip.old }
 {
+    let registers = &mut chip.registers;
     match command {
         Command::PowerOn => {
-            power_on(registers, readout, forcing);
+            *chip = chip_at_power_on();
             return Ok(());
         }
         Command::DefaultTimingA => registers.manner.a = None,
         Command::DefaultTimingB => registers.manner.b = None,
         Command::Load => {
             load(&registers.program, &mut registers.progress);
-            forcing.forced = false;
+            chip.forcing.forced = false;
         }
         Command::Continue => continue_count(&mut registers.progress),
         Command::InterruptsOff => registers.service.interrupts = false,
@@ -68,10 +67,10 @@ pub(crate) fn apply_command(
             return Ok(());
         }
         Command::Disable | Command::ReadMask => {}
-        Command::StartReadOut => start_read_out(readout.mask, readout)?,
-        Command::ReadStatus => start_read_out(1, readout)?,
+        Command::StartReadOut => start_read_out(chip.readout.mask, &mut chip.readout)?,
+        Command::ReadStatus => start_read_out(1, &mut chip.readout)?,
         Command::ClearStatus => clear_status(&mut registers.latches),
-        Command::ForceReady => forcing.forced = true,
+        Command::ForceReady => chip.forcing.forced = true,
     }
     accept(due, registers);
     Ok(())

@@ -1,6 +1,6 @@
 // What a first byte does, by its group.
 ghost use Rattle.std.specs.Prelude.{◌≡◌};
-ghost use Rattle.channel.specs.Values.{chip_of, done_of, answered};
+ghost use Rattle.channel.specs.Values.{done_of, answered};
 ghost use Rattle.registers.specs.Firsts.{with_kind, with_wr3, first_did};
 
 use crate::command::apply_command;
@@ -8,9 +8,9 @@ use crate::enabling::{accept, enable_by, may_enable};
 use control::fields::{AddressRule, Space};
 use control::first::First;
 use control::follower::Followers;
+use registers::chip::Chip;
 use registers::fault::ChannelFault;
 use registers::program::Port;
-use registers::read_out::{Forcing, ReadOut};
 use registers::row::Registers;
 
 // WR1 and WR2: a port's space and rule, its start as it was.
@@ -30,15 +30,10 @@ fn set_wr3(stop: bool, interrupts: bool, registers: &mut Registers)
 }
 
 // What a first byte does, with the followers due after it. A refusal changes nothing.
-pub(crate) fn apply_first(
-    first: First,
-    due: Followers,
-    registers: &mut Registers,
-    readout: &mut ReadOut,
-    forcing: &mut Forcing,
-) -> Result<(), ChannelFault>
-    ensures { done_of result (chip_of registers.new readout.new forcing.new) ≡ answered (first_did first due (chip_of registers.old readout.old forcing.old)) (chip_of registers.old readout.old forcing.old) }
+pub(crate) fn apply_first(first: First, due: Followers, chip: &mut Chip) -> Result<(), ChannelFault>
+    ensures { done_of result chip.new ≡ answered (first_did first due chip.old) chip.old }
 {
+    let registers = &mut chip.registers;
     match first {
         First::Wr0 { class, source } => {
             registers.program.class = class;
@@ -71,7 +66,7 @@ pub(crate) fn apply_first(
             registers.manner.heed = heed_waits;
             registers.program.restart = auto_restart;
         }
-        First::Wr6(command) => return apply_command(command, due, registers, readout, forcing),
+        First::Wr6(command) => return apply_command(command, due, chip),
     }
     accept(due, registers);
     Ok(())

@@ -1,10 +1,10 @@
 // The records at power-on.
 ghost use Rattle.std.specs.Prelude.{◌≡◌};
-ghost use Rattle.channel.specs.Values.{chip_of};
 ghost use Rattle.registers.specs.Chips.{power_on, program_at_power_on, port_at_power_on};
 
 use control::fields::{AddressRule, Class, InterruptControl, Level, Mode, PortName, Space};
 use control::follower::Followers;
+use registers::chip::Chip;
 use registers::latches::{Causes, Latches};
 use registers::manner::Manner;
 use registers::program::{Port, Program, Search, Signals};
@@ -132,10 +132,12 @@ pub fn forcing_at_power_on() -> Forcing
 }
 
 // All of a channel at power-on.
-pub(crate) fn power_on(registers: &mut Registers, readout: &mut ReadOut, forcing: &mut Forcing)
-    ensures { chip_of registers.new readout.new forcing.new ≡ power_on }
+pub fn chip_at_power_on() -> Chip
+    ensures { result ≡ power_on }
 {
-    *registers = registers_at_power_on();
-    *readout = readout_at_power_on();
-    *forcing = forcing_at_power_on();
+    Chip {
+        registers: registers_at_power_on(),
+        readout: readout_at_power_on(),
+        forcing: forcing_at_power_on(),
+    }
 }

@@ -2,6 +2,7 @@
 use Rattle.std.proofs.Common.{◌≡◌, ℕ, ◌+◌, ◌<◌, Bool, true, false, T, ◌⊎◌, List, [], ◌∷◌, ◌++◌, length, Ok, Err, Result, refl, ap, ◌∙◌, inl, inr, arith}
 use Rattle.control.specs.declared.fault.TableFault.{TableFault}
 use Rattle.control.specs.declared.fields.Level.{Level}
+use Rattle.registers.specs.declared.chip.Chip.{Chip}
 use Rattle.registers.specs.declared.fault.ChannelFault.{ChannelFault}
 use Rattle.registers.specs.declared.input.CycleInput.{CycleInput}
 use Rattle.registers.specs.declared.latches.Latches.{Latches}
@@ -12,7 +13,7 @@ use Rattle.registers.specs.declared.row.Loan.TheVariants.{Closed, Master, Releas
 use Rattle.registers.specs.declared.row.Registers.{Registers}
 use Rattle.registers.specs.declared.row.Service.{Service}
 use Rattle.registers.specs.Calls.{State, Call, write_call, table_call, status_call, open_call, cycle_call, run_call, return_call, acknowledge_call, reti_call, open_did, opened, return_did, returned, event_on, event_of, events_of, state_after, write_outcome, does, events, state_at_end}
-use Rattle.registers.specs.Chips.{Chip, with_loan, with_latches, with_service, with_registers, with_readout}
+use Rattle.registers.specs.Chips.{with_loan, with_latches, with_service, with_registers, with_readout}
 use Rattle.registers.specs.Cycles.{is_active}
 use Rattle.registers.specs.Interrupts.{acknowledge_did, acknowledged, reti_did, returned_from, requested}
 use Rattle.registers.specs.Kept.{Kept, Holds}

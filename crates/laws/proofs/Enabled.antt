@@ -16,12 +16,12 @@ use Rattle.control.specs.declared.follower.FollowerByte.{FollowerByte}
 use Rattle.control.specs.declared.follower.FollowerByte.TheVariants.{Mask, Match}
 use Rattle.control.specs.declared.follower.Followers.{Followers}
 use Rattle.control.specs.declared.follower.Followers.TheVariants.{Zero, One}
+use Rattle.registers.specs.declared.chip.Chip.{Chip}
 use Rattle.registers.specs.declared.fault.ChannelFault.{ChannelFault}
 use Rattle.registers.specs.declared.row.Loan.{Loan}
 use Rattle.registers.specs.declared.row.Loan.TheVariants.{Closed, Master, Released}
 use Rattle.registers.specs.declared.row.Registers.{Registers}
 use Rattle.registers.specs.Calls.{State, write_call, table_call, status_call, open_call, cycle_call, run_call, return_call, acknowledge_call, reti_call}
-use Rattle.registers.specs.Chips.{Chip}
 use Rattle.registers.specs.Firsts.{enabled_by, enables, enabling, with_wr3}
 use Rattle.registers.specs.Kept.{Kept, OnlySearch}
 use Rattle.registers.specs.Writes.{follower_set, sequenced, follower_did, decoded_did, write_did, wrote}

@@ -1,9 +1,9 @@
 -- Nothing but an enabling leaves a channel enabled that has accepted a control byte. Assumes nothing.
 use Rattle.std.proofs.Common.{◌≡◌, ℕ, ◌+◌, true, ◌⊎◌, List, [], ◌∷◌, ◌++◌, length, Ok, Err, Result, sym, refl, ap, ◌∙◌, inl, inr}
+use Rattle.registers.specs.declared.chip.Chip.{Chip}
 use Rattle.registers.specs.declared.fault.ChannelFault.{ChannelFault}
 use Rattle.registers.specs.declared.outcome.Outcome.TheVariants.{WroteTable}
 use Rattle.registers.specs.Calls.{State, write_call, table_call, status_call, open_call, cycle_call, run_call, return_call, acknowledge_call, reti_call, write_outcome, does}
-use Rattle.registers.specs.Chips.{Chip}
 use Rattle.registers.specs.Kept.{Kept}
 use Rattle.registers.specs.Writes.{wrote, table_next, table_did}
 use Rattle.laws.specs.Enabling.{EnabledBy, Accepted, RefusedNext, EnabledByTable, bytes_accepted, OnlyEnablingsEnable}

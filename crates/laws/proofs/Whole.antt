@@ -1,11 +1,11 @@
 -- All calls, control bytes too: every channel stays kept, the bytes are carried, the spaces hold what was written. Assumes nothing.
 use Rattle.std.proofs.Common.{◌≡◌, ℕ, ◌+◌, List, [], ◌∷◌, ◌++◌, None, Ok, Err, Result, sym, refl, ◌∙◌, inr}
 use Rattle.control.specs.declared.fault.TableFault.{TableFault}
+use Rattle.registers.specs.declared.chip.Chip.{Chip}
 use Rattle.registers.specs.declared.fault.ChannelFault.{ChannelFault}
 use Rattle.registers.specs.declared.row.Loan.TheVariants.{Closed}
 use Rattle.registers.specs.declared.row.Registers.{Registers}
 use Rattle.registers.specs.Calls.{State, Call, write_call, table_call, status_call, open_call, cycle_call, run_call, return_call, acknowledge_call, reti_call, write_outcome, does, state_at_end}
-use Rattle.registers.specs.Chips.{Chip}
 use Rattle.registers.specs.Kept.{Kept}
 use Rattle.registers.specs.Writes.{Done, wrote, table_next, table_did}
 use Rattle.laws.specs.Carried.{KeptIn, Made, CallsKeep, BytesAreCarried, BytesAreCarriedAtEachMoment, CyclesMakeTheContents}

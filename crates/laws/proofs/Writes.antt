@@ -15,12 +15,13 @@ use Rattle.control.specs.declared.follower.FollowerByte.{FollowerByte}
 use Rattle.control.specs.declared.follower.FollowerByte.TheVariants as follower
 use Rattle.control.specs.declared.follower.Followers.{Followers}
 use Rattle.control.specs.declared.follower.Followers.TheVariants.{Zero, One, Two, Three, Four}
+use Rattle.registers.specs.declared.chip.Chip.{Chip}
 use Rattle.registers.specs.declared.fault.ChannelFault.{ChannelFault}
 use Rattle.registers.specs.declared.row.Loan.{Loan}
 use Rattle.registers.specs.declared.row.Loan.TheVariants.{Closed, Master, Released}
 use Rattle.registers.specs.declared.row.Registers.{Registers}
 use Rattle.registers.specs.Bytes.{disabled}
-use Rattle.registers.specs.Chips.{Chip, at_progress, with_sequence}
+use Rattle.registers.specs.Chips.{at_progress, with_sequence}
 use Rattle.registers.specs.Firsts.{enabled_by, enables, enabling, starts_read_out, command_did, first_did, with_wr3}
 use Rattle.registers.specs.Kept.{Kept, InBlock, OnlySearch}
 use Rattle.registers.specs.Writes.{follower_set, sequenced, follower_did, decoded_did, write_did, wrote}

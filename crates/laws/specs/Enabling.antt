@@ -4,13 +4,13 @@ use Rattle.control.specs.Firsts.{decoded_first, followers_of}
 use Rattle.control.specs.declared.first.First.TheVariants.{Wr3}
 use Rattle.control.specs.declared.follower.Follower.{Follower}
 use Rattle.control.specs.declared.follower.Followers.TheVariants.{Zero, One}
+use Rattle.registers.specs.declared.chip.Chip.{Chip}
 use Rattle.registers.specs.declared.fault.ChannelFault.{ChannelFault}
 use Rattle.registers.specs.declared.outcome.Outcome.{Outcome}
 use Rattle.registers.specs.declared.outcome.Outcome.TheVariants as outcome
 use Rattle.registers.specs.declared.row.Loan.TheVariants.{Closed}
 use Rattle.registers.specs.declared.row.Sequence.{Sequence}
 use Rattle.registers.specs.Calls.{State, Call, write_call, table_call, status_call, open_call, cycle_call, run_call, return_call, acknowledge_call, reti_call, does}
-use Rattle.registers.specs.Chips.{Chip}
 use Rattle.registers.specs.Writes.{wrote}
 use Rattle.laws.specs.Carried.{KeptIn}
 

@@ -2,6 +2,7 @@
 use Rattle.std.specs.Prelude.{ℕ, Bool, true, false, List, [], ◌∷◌, ◌++◌, length, Ok, Err, Result}
 use Rattle.control.specs.declared.fields.Level.{Level}
 use Rattle.registers.specs.declared.answer.Answer.{Answer}
+use Rattle.registers.specs.declared.chip.Chip.{Chip}
 use Rattle.registers.specs.declared.fault.ChannelFault.{ChannelFault}
 use Rattle.registers.specs.declared.fault.ChannelFault.TheVariants.{LoanOpen, Disabled, ReadyInactive, NoLoanOpen, LetGo, StillMaster}
 use Rattle.registers.specs.declared.input.CycleInput.{CycleInput}
@@ -9,7 +10,7 @@ use Rattle.registers.specs.declared.outcome.Outcome.{Outcome}
 use Rattle.registers.specs.declared.outcome.Outcome.TheVariants as outcome
 use Rattle.registers.specs.declared.row.Loan.{Loan}
 use Rattle.registers.specs.declared.row.Loan.TheVariants.{Closed, Master, Released}
-use Rattle.registers.specs.Chips.{Chip, with_loan, with_registers, power_on}
+use Rattle.registers.specs.Chips.{with_loan, with_registers, power_on}
 use Rattle.registers.specs.Contents.{Contents}
 use Rattle.registers.specs.Cycles.{Cycled, cycled, is_active}
 use Rattle.registers.specs.Interrupts.{acknowledged, returned_from, refuses}

@@ -7,24 +7,19 @@ use Rattle.control.specs.declared.fields.Mode.TheVariants as mode
 use Rattle.control.specs.declared.fields.PortName.TheVariants.{A}
 use Rattle.control.specs.declared.fields.Space.TheVariants.{Memory}
 use Rattle.control.specs.declared.follower.Followers.TheVariants.{Zero}
+use Rattle.registers.specs.declared.chip.Chip.{Chip}
 use Rattle.registers.specs.declared.latches.Causes.{Causes}
 use Rattle.registers.specs.declared.latches.Latches.{Latches}
 use Rattle.registers.specs.declared.manner.Manner.{Manner}
 use Rattle.registers.specs.declared.program.Port.{Port}
 use Rattle.registers.specs.declared.program.Program.{Program}
 use Rattle.registers.specs.declared.progress.Progress.{Progress}
-use Rattle.registers.specs.declared.read_out.Forcing.{Forcing}
 use Rattle.registers.specs.declared.read_out.ReadOut.{ReadOut}
 use Rattle.registers.specs.declared.row.Loan.{Loan}
 use Rattle.registers.specs.declared.row.Loan.TheVariants.{Closed}
 use Rattle.registers.specs.declared.row.Registers.{Registers}
 use Rattle.registers.specs.declared.row.Sequence.{Sequence}
 use Rattle.registers.specs.declared.row.Service.{Service}
-
-pub record Chip : Type 0 where
-  pub registers : Registers
-  pub readout : ReadOut
-  pub forcing : Forcing
 
 -- POWER-ON
 

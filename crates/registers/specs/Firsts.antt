@@ -10,6 +10,7 @@ use Rattle.control.specs.declared.first.First.{First}
 use Rattle.control.specs.declared.first.First.TheVariants as first
 use Rattle.control.specs.declared.follower.Followers.{Followers}
 use Rattle.control.specs.declared.follower.Followers.TheVariants.{Zero, One, Two, Three, Four}
+use Rattle.registers.specs.declared.chip.Chip.{Chip}
 use Rattle.registers.specs.declared.fault.ChannelFault.{ChannelFault}
 use Rattle.registers.specs.declared.fault.ChannelFault.TheVariants.{LengthZero, CountAboveLength, RegisterUnread}
 use Rattle.registers.specs.declared.latches.Latches.{Latches}
@@ -20,7 +21,7 @@ use Rattle.registers.specs.declared.program.Search.{Search}
 use Rattle.registers.specs.declared.program.Signals.{Signals}
 use Rattle.registers.specs.declared.row.Registers.{Registers}
 use Rattle.registers.specs.Bytes.{disabled, continued, loaded}
-use Rattle.registers.specs.Chips.{Chip, power_on, no_causes, with_program, with_manner, at_progress, with_latches, with_causes, with_service, with_sequence, with_registers, with_readout, forced_as, enabled_as}
+use Rattle.registers.specs.Chips.{power_on, no_causes, with_program, with_manner, at_progress, with_latches, with_causes, with_service, with_sequence, with_registers, with_readout, forced_as, enabled_as}
 
 -- SETTING ONE PART OF THE PROGRAM
 

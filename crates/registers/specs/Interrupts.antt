@@ -2,13 +2,14 @@
 use Rattle.std.specs.Prelude.{ℕ, ◌+◌, Bool, true, false, cond, not, ◌&&◌, ◌||◌, Ok, Err, Result, bit_and, bit_or}
 use Rattle.control.specs.declared.fields.Level.{Level}
 use Rattle.control.specs.declared.fields.Level.TheVariants.{Low, High}
+use Rattle.registers.specs.declared.chip.Chip.{Chip}
 use Rattle.registers.specs.declared.fault.ChannelFault.{ChannelFault}
 use Rattle.registers.specs.declared.fault.ChannelFault.TheVariants.{LoanOpen, NoRequest}
 use Rattle.registers.specs.declared.latches.Causes.{Causes}
 use Rattle.registers.specs.declared.row.Loan.{Loan}
 use Rattle.registers.specs.declared.row.Loan.TheVariants.{Closed, Master, Released}
 use Rattle.registers.specs.declared.row.Registers.{Registers}
-use Rattle.registers.specs.Chips.{Chip, no_causes, with_causes, with_latches, with_service, with_registers}
+use Rattle.registers.specs.Chips.{no_causes, with_causes, with_latches, with_service, with_registers}
 use Rattle.registers.specs.ReadOuts.{bit}
 use Rattle.registers.specs.Writes.{Done}
 

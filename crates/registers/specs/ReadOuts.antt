@@ -1,13 +1,14 @@
 -- The seven read registers, the status byte and the read-out. Assumes nothing.
 use Rattle.std.specs.Prelude.{ℕ, ◌+◌, ◌-◌, ◌/◌, ◌%◌, ◌^◌, Bool, true, false, cond, not, ◌||◌, List, [], ◌∷◌, Ok, Err, Result, ◌==◌, bit_and, bit_xor, slice_index}
 use Rattle.control.specs.declared.fields.Level.{Level}
+use Rattle.registers.specs.declared.chip.Chip.{Chip}
 use Rattle.registers.specs.declared.fault.ChannelFault.{ChannelFault}
 use Rattle.registers.specs.declared.fault.ChannelFault.TheVariants.{LoanOpen, NothingUnread}
 use Rattle.registers.specs.declared.read_out.ReadOut.{ReadOut}
 use Rattle.registers.specs.declared.row.Loan.{Loan}
 use Rattle.registers.specs.declared.row.Loan.TheVariants.{Closed, Master, Released}
 use Rattle.registers.specs.declared.row.Registers.{Registers}
-use Rattle.registers.specs.Chips.{Chip, with_readout}
+use Rattle.registers.specs.Chips.{with_readout}
 use Rattle.registers.specs.Cycles.{is_active}
 use Rattle.registers.specs.Writes.{Done}
 

@@ -2,13 +2,14 @@
 use Rattle.std.specs.Prelude.{◌≡◌, ℕ, zero, suc, ◌+◌, ◌-◌, Bool, true, false, List, [], ◌∷◌, replicate, Ok, Err, Result, ◌==◌, slice_index_or}
 use Rattle.control.specs.Numbers.{mode_bits}
 use Rattle.control.specs.declared.fields.Level.TheVariants.{Low}
+use Rattle.registers.specs.declared.chip.Chip.{Chip}
 use Rattle.registers.specs.declared.fault.ChannelFault.{ChannelFault}
 use Rattle.registers.specs.declared.input.CycleInput.{CycleInput}
 use Rattle.registers.specs.declared.program.Signals.{Signals}
 use Rattle.spaces.specs.Ports.{silent}
 use Rattle.registers.specs.Bytes.{equal_where_0}
 use Rattle.registers.specs.Calls.{State, Call, table_call, open_call, run_call, Event, events, state_at_end, powered}
-use Rattle.registers.specs.Chips.{Chip, power_on, with_program, with_latches, with_registers}
+use Rattle.registers.specs.Chips.{power_on, with_program, with_latches, with_registers}
 use Rattle.registers.specs.Contents.{Contents}
 use Rattle.registers.specs.Firsts.{with_length, with_signals}
 use Rattle.registers.specs.Interrupts.{vector_of}

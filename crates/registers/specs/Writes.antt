@@ -11,6 +11,7 @@ use Rattle.control.specs.declared.fields.Timing.{Timing}
 use Rattle.control.specs.declared.follower.FollowerByte.{FollowerByte}
 use Rattle.control.specs.declared.follower.FollowerByte.TheVariants as follower
 use Rattle.control.specs.declared.follower.Followers.{Followers}
+use Rattle.registers.specs.declared.chip.Chip.{Chip}
 use Rattle.registers.specs.declared.fault.ChannelFault.{ChannelFault}
 use Rattle.registers.specs.declared.fault.ChannelFault.TheVariants.{LoanOpen, Decode}
 use Rattle.registers.specs.declared.manner.Manner.{Manner}
@@ -19,7 +20,7 @@ use Rattle.registers.specs.declared.read_out.ReadOut.{ReadOut}
 use Rattle.registers.specs.declared.row.Loan.{Loan}
 use Rattle.registers.specs.declared.row.Loan.TheVariants.{Closed, Master, Released}
 use Rattle.registers.specs.declared.row.Registers.{Registers}
-use Rattle.registers.specs.Chips.{Chip, with_program, with_manner, with_registers, with_readout}
+use Rattle.registers.specs.Chips.{with_program, with_manner, with_registers, with_readout}
 use Rattle.registers.specs.Firsts.{accepted, enabled_by, first_did, with_port_a, with_port_b, with_length, with_search, with_signals}
 
 -- FOLLOWERS

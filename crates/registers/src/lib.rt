@@ -4,6 +4,7 @@
 #![tactic(auto)]
 
 pub mod answer;
+pub mod chip;
 pub mod fault;
 pub mod input;
 pub mod latches;
