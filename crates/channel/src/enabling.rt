@@ -24,7 +24,7 @@ pub(crate) fn may_enable(registers: &Registers) -> Result<(), ChannelFault>
 {
     if registers.program.length == 0 {
         Err(ChannelFault::LengthZero)
-    } else if registers.progress.count > registers.program.length as u32 {
+    } else if registers.progress.count > u32::from(registers.program.length) {
         Err(ChannelFault::CountAboveLength)
     } else {
         Ok(())
@@ -35,10 +35,7 @@ pub(crate) fn may_enable(registers: &Registers) -> Result<(), ChannelFault>
 pub(crate) fn enable_by(due: Followers, registers: &mut Registers)
     ensures { registers.new ≡ enabled_by due registers.old }
 {
-    let last = match due {
-        Followers::Zero => true,
-        _ => false,
-    };
+    let last = matches!(due, Followers::Zero);
     registers.sequence = Sequence {
         due,
         enabling: !last,

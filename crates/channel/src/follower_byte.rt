@@ -10,13 +10,15 @@ use registers::chip::Chip;
 fn low_as(byte: u8, number: u16) -> u16
     ensures { result ≡ low_as byte number }
 {
-    number / 256 * 256 + byte as u16
+    let [_, high] = number.to_le_bytes();
+    u16::from_le_bytes([byte, high])
 }
 
 fn high_as(byte: u8, number: u16) -> u16
     ensures { result ≡ high_as byte number }
 {
-    byte as u16 * 256 + number % 256
+    let [low, _] = number.to_le_bytes();
+    u16::from_le_bytes([low, byte])
 }
 
 // The register that a follower sets: of the program or the manner, or the read mask, which leaves the marks as they are.
