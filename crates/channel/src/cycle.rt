@@ -1,15 +1,16 @@
 // A cycle of the master: a write, a read or a pause.
 ghost use Rattle.std.specs.Prelude.{◌≡◌, ◌≤◌};
-ghost use Rattle.channel.specs.Values.{contents_of, step_of, cycled_of};
+ghost use Rattle.channel.specs.Values.{contents_of, frames_of, step_of, cycled_of};
 ghost use Rattle.registers.specs.Bytes.{step};
 ghost use Rattle.registers.specs.Chips.{with_loan};
-ghost use Rattle.registers.specs.Cycles.{same_level, is_active, pause, pause_kind, loan_paused, worked, cycled};
+ghost use Rattle.registers.specs.Cycles.{is_active, pause, pause_kind, loan_paused, worked, cycled};
 
 use crate::bus::{loan_after, loan_paused, pause, pause_kind};
 use crate::bytes::{read_byte, write_byte};
 use crate::latching::latch;
 use crate::step::Step;
 use crate::timing::{time_of, timing_of};
+use crate::two_spaces::TwoSpaces;
 use control::fields::Level;
 use registers::answer::Answer;
 use registers::input::CycleInput;
@@ -24,33 +25,22 @@ use spaces::memory::Memory;
 pub fn is_active(manner: &Manner, forced: bool, level: Level) -> bool
     ensures { result ≡ is_active manner.now forced level }
 {
-    same_level(level, manner.ready) || forced
-}
-
-fn same_level(one: Level, other: Level) -> bool
-    ensures { result ≡ same_level one other }
-{
-    match (one, other) {
-        (Level::Low, Level::Low) | (Level::High, Level::High) => true,
-        (Level::Low, Level::High) | (Level::High, Level::Low) => false,
-    }
+    level == manner.ready || forced
 }
 
 // The held byte is written; with none held one is read.
-pub(crate) fn step<M: Memory, D: DeviceSpace>(
+fn step<M: Memory, D: DeviceSpace>(
     program: &Program,
     progress: &mut Progress,
-    memory: &mut M,
-    devices: &mut D,
+    spaces: &mut TwoSpaces<M, D>,
 ) -> Step
     requires { progress.old.count ≤ 65535 }
-    ensures step { step_of result progress.new (contents_of (M.cells memory.new) (D.ports devices.new)) ≡ step program.now progress.old (contents_of (M.cells memory.old) (D.ports devices.old)) }
-    ensures memory { M.frame memory.new ≡ M.frame memory.old }
-    ensures devices { D.frame devices.new ≡ D.frame devices.old }
+    ensures step { step_of result progress.new (contents_of M.cells D.ports spaces.new) ≡ step program.now progress.old (contents_of M.cells D.ports spaces.old) }
+    ensures frames { frames_of M.frame D.frame spaces.new ≡ frames_of M.frame D.frame spaces.old }
 {
     match progress.held {
-        Some(byte) => write_byte(program, byte, progress, memory, devices),
-        None => read_byte(program, progress, memory, devices),
+        Some(byte) => write_byte(program, byte, progress, spaces),
+        None => read_byte(program, progress, spaces),
     }
 }
 
@@ -58,32 +48,22 @@ pub(crate) fn step<M: Memory, D: DeviceSpace>(
 fn work<M: Memory, D: DeviceSpace>(
     waits: u8,
     registers: &mut Registers,
-    memory: &mut M,
-    devices: &mut D,
+    spaces: &mut TwoSpaces<M, D>,
 ) -> Answer
     requires { registers.old.progress.count ≤ 65535 }
-    ensures cycled { cycled_of result registers.new (contents_of (M.cells memory.new) (D.ports devices.new)) ≡ worked waits registers.old (contents_of (M.cells memory.old) (D.ports devices.old)) }
-    ensures memory { M.frame memory.new ≡ M.frame memory.old }
-    ensures devices { D.frame devices.new ≡ D.frame devices.old }
+    ensures cycled { cycled_of result registers.new (contents_of M.cells D.ports spaces.new) ≡ worked waits registers.old (contents_of M.cells D.ports spaces.old) }
+    ensures frames { frames_of M.frame D.frame spaces.new ≡ frames_of M.frame D.frame spaces.old }
 {
-    let step = step(&registers.program, &mut registers.progress, memory, devices);
+    let Step { made, matched } = step(&registers.program, &mut registers.progress, spaces);
     latch(
         &registers.program,
-        step.made.mark,
-        step.matched,
+        made.mark,
+        matched,
         &mut registers.latches,
     );
-    registers.loan = loan_after(registers.manner.mode, step.made.mark);
-    let timing = timing_of(step.made.kind, &registers.program, &registers.manner);
-    Answer {
-        kind: step.made.kind,
-        space: step.made.space,
-        address: step.made.address,
-        byte: step.made.byte,
-        time: time_of(registers.manner.heed, timing, step.made.space, waits),
-        mark: step.made.mark,
-        pulse: step.made.pulse,
-    }
+    registers.loan = loan_after(registers.manner.mode, made.mark);
+    let timing = timing_of(made.kind, &registers.program, &registers.manner);
+    made.timed(time_of(registers.manner.heed, timing, made.space, waits))
 }
 
 // Idling or letting go.
@@ -100,22 +80,17 @@ pub fn cycle<M: Memory, D: DeviceSpace>(
     forced: bool,
     input: CycleInput,
     registers: &mut Registers,
-    memory: &mut M,
-    devices: &mut D,
+    spaces: &mut TwoSpaces<M, D>,
 ) -> Answer
     requires { registers.old.progress.count ≤ 65535 }
-    ensures cycled { cycled_of result registers.new (contents_of (M.cells memory.new) (D.ports devices.new)) ≡ cycled forced input registers.old (contents_of (M.cells memory.old) (D.ports devices.old)) }
-    ensures memory { M.frame memory.new ≡ M.frame memory.old }
-    ensures devices { D.frame devices.new ≡ D.frame devices.old }
+    ensures cycled { cycled_of result registers.new (contents_of M.cells D.ports spaces.new) ≡ cycled forced input registers.old (contents_of M.cells D.ports spaces.old) }
+    ensures frames { frames_of M.frame D.frame spaces.new ≡ frames_of M.frame D.frame spaces.old }
 {
     match registers.progress.held {
-        Some(_) => work(input.waits, registers, memory, devices),
-        None => {
-            if is_active(&registers.manner, forced, input.ready) {
-                work(input.waits, registers, memory, devices)
-            } else {
-                rest(registers)
-            }
+        Some(_) => work(input.waits, registers, spaces),
+        None if is_active(&registers.manner, forced, input.ready) => {
+            work(input.waits, registers, spaces)
         }
+        None => rest(registers),
     }
 }

@@ -23,7 +23,7 @@ pub(crate) fn finished_mark(ended: bool, stopped: bool) -> Mark
 pub(crate) fn is_last(program: &Program, progress: &Progress) -> bool
     ensures { result ≡ is_last program.now progress.now }
 {
-    progress.count == program.length as u32
+    progress.count == u32::from(program.length)
 }
 
 // Whether a pulse comes with the byte after those counted.
@@ -31,7 +31,8 @@ pub(crate) fn pulsed(program: &Program, progress: &Progress) -> bool
     requires { progress.now.count ≤ 65535 }
     ensures { result ≡ pulsed program.now progress.now }
 {
-    program.signals.control.pulses && (progress.count + 1) % 256 == program.signals.pulse as u32
+    let signals = program.signals;
+    signals.control.pulses && (progress.count + 1) % 256 == u32::from(signals.pulse)
 }
 
 // One byte more is finished.
@@ -48,6 +49,7 @@ pub(crate) fn finish(program: &Program, progress: &mut Progress)
 }
 
 // An end reloads or disables; a stop disables in either case.
+#[tactic(auto, unfolding(registers::specs::Bytes::closed))]
 fn close(ended: bool, stopped: bool, program: &Program, progress: &mut Progress)
     ensures { progress.new ≡ closed ended stopped program.now.restart program.now progress.old }
 {

@@ -13,11 +13,8 @@ pub fn requested(iei: Level, registers: &Registers) -> bool
 {
     let causes = registers.latches.causes;
     let service = registers.service;
-    let high = match iei {
-        Level::Low => false,
-        Level::High => true,
-    };
-    (causes.matched || causes.ended) && service.interrupts && !service.serving && high
+    let caused = causes.matched || causes.ended;
+    caused && service.interrupts && !service.serving && iei == Level::High
 }
 
 // D2 D1 of a vector with the status in it.

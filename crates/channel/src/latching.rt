@@ -13,9 +13,9 @@ pub(crate) fn latch(program: &Program, mark: Mark, matched: bool, latches: &mut 
 {
     let control = program.signals.control;
     let ended = ends_block(mark);
-    latches.moved = latches.moved || finishes(mark);
-    latches.matched = latches.matched || matched;
-    latches.ended = latches.ended || ended;
-    latches.causes.matched = latches.causes.matched || matched && control.on_match;
-    latches.causes.ended = latches.causes.ended || ended && control.on_end;
+    latches.moved |= finishes(mark);
+    latches.matched |= matched;
+    latches.ended |= ended;
+    latches.causes.matched |= matched && control.on_match;
+    latches.causes.ended |= ended && control.on_end;
 }

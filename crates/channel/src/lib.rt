@@ -3,7 +3,6 @@
 // byte says, `registers` the structs and every rule, `spaces` the memory and the devices.
 #![tactic(auto)]
 
-mod access;
 mod bus;
 mod bytes;
 mod command;
@@ -23,3 +22,4 @@ pub mod power_on;
 pub mod read_out;
 mod step;
 mod timing;
+pub mod two_spaces;

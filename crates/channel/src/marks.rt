@@ -8,28 +8,19 @@ use registers::answer::Mark;
 pub(crate) fn finishes(mark: Mark) -> bool
     ensures { result ≡ finishes mark }
 {
-    match mark {
-        Mark::Unfinished => false,
-        Mark::Finished | Mark::Ended | Mark::Stopped | Mark::Both => true,
-    }
+    mark != Mark::Unfinished
 }
 
 // Whether the block ended.
 pub(crate) fn ends_block(mark: Mark) -> bool
     ensures { result ≡ ends_block mark }
 {
-    match mark {
-        Mark::Ended | Mark::Both => true,
-        Mark::Unfinished | Mark::Finished | Mark::Stopped => false,
-    }
+    matches!(mark, Mark::Ended | Mark::Both)
 }
 
 // Whether the channel ended or stopped.
 pub(crate) fn is_final(mark: Mark) -> bool
     ensures { result ≡ final mark }
 {
-    match mark {
-        Mark::Ended | Mark::Stopped | Mark::Both => true,
-        Mark::Unfinished | Mark::Finished => false,
-    }
+    matches!(mark, Mark::Ended | Mark::Stopped | Mark::Both)
 }

@@ -15,8 +15,6 @@ pub(crate) fn equal_where_0(mask: u8, pattern: u8, byte: u8) -> bool
 pub(crate) fn matches(program: &Program, compare: Option<u8>) -> bool
     ensures { result ≡ matches program.now compare }
 {
-    match compare {
-        Some(byte) => equal_where_0(program.search.mask, program.search.pattern, byte),
-        None => false,
-    }
+    let search = program.search;
+    compare.is_some_and(|byte| equal_where_0(search.mask, search.pattern, byte))
 }

@@ -1,46 +1,26 @@
 // Source and destination of a block, and how a port's counter moves.
 ghost use Rattle.std.specs.Prelude.{◌≡◌};
-ghost use Rattle.registers.specs.Ports.{source_port, destination_port, source_counter, destination_counter, address_of, moved};
+ghost use Rattle.registers.specs.Ports.{of_port, other, address_of, moved};
 
 use control::fields::{AddressRule, PortName, Space};
-use registers::program::{Port, Program};
-use registers::progress::Progress;
 
-// The port that bytes are read from.
-pub(crate) fn source_port(program: &Program) -> Port
-    ensures { result ≡ source_port program.now }
+// Of two things, that of the port named.
+pub(crate) fn of_port<T: Copy>(name: PortName, a: T, b: T) -> T
+    ensures { result ≡ of_port name a b }
 {
-    match program.source {
-        PortName::A => program.a,
-        PortName::B => program.b,
+    match name {
+        PortName::A => a,
+        PortName::B => b,
     }
 }
 
-// The port that bytes are written to.
-pub(crate) fn destination_port(program: &Program) -> Port
-    ensures { result ≡ destination_port program.now }
+// The other port.
+pub(crate) fn other(name: PortName) -> PortName
+    ensures { result ≡ other name }
 {
-    match program.source {
-        PortName::A => program.b,
-        PortName::B => program.a,
-    }
-}
-
-pub(crate) fn source_counter(program: &Program, progress: &Progress) -> u16
-    ensures { result ≡ source_counter program.now progress.now }
-{
-    match program.source {
-        PortName::A => progress.a,
-        PortName::B => progress.b,
-    }
-}
-
-pub(crate) fn destination_counter(program: &Program, progress: &Progress) -> u16
-    ensures { result ≡ destination_counter program.now progress.now }
-{
-    match program.source {
-        PortName::A => progress.b,
-        PortName::B => progress.a,
+    match name {
+        PortName::A => PortName::B,
+        PortName::B => PortName::A,
     }
 }
 

@@ -6,6 +6,7 @@ ghost use Rattle.registers.specs.ReadOuts.{bit, status_byte, shown, lowest, read
 use crate::cycle::is_active;
 use control::fields::Level;
 use registers::fault::ChannelFault;
+use registers::progress::Progress;
 use registers::read_out::ReadOut;
 use registers::row::Registers;
 
@@ -34,17 +35,12 @@ pub fn read_registers(level: Level, forced: bool, registers: &Registers) -> [u8;
     requires { registers.now.progress.count ≤ 65536 }
     ensures { result ≡ shown level forced registers.now }
 {
-    let progress = registers.progress;
-    let count = progress.count.saturating_sub(1);
-    [
-        status_byte(level, forced, registers),
-        (count % 256) as u8,
-        (count / 256) as u8,
-        (progress.a % 256) as u8,
-        (progress.a / 256) as u8,
-        (progress.b % 256) as u8,
-        (progress.b / 256) as u8,
-    ]
+    let Progress { a, b, count, .. } = registers.progress;
+    let [count_low, count_high] = (count.saturating_sub(1) as u16).to_le_bytes();
+    let [a_low, a_high] = a.to_le_bytes();
+    let [b_low, b_high] = b.to_le_bytes();
+    let status = status_byte(level, forced, registers);
+    [status, count_low, count_high, a_low, a_high, b_low, b_high]
 }
 
 // A read-out is refused with a register unread; else these registers are marked unread.
@@ -60,24 +56,10 @@ pub fn start_read_out(marks: u8, readout: &mut ReadOut) -> Result<(), ChannelFau
 }
 
 // The lowest of the seven registers that is unread.
-pub(crate) fn lowest(unread: u8) -> u8
+pub(crate) fn lowest(unread: u8) -> usize
     ensures { result ≡ lowest unread }
 {
-    if unread & 0x01 != 0 {
-        0
-    } else if unread & 0x02 != 0 {
-        1
-    } else if unread & 0x04 != 0 {
-        2
-    } else if unread & 0x08 != 0 {
-        3
-    } else if unread & 0x10 != 0 {
-        4
-    } else if unread & 0x20 != 0 {
-        5
-    } else {
-        6
-    }
+    unread.trailing_zeros().min(6) as usize
 }
 
 // Unmarks the lowest unread register.
@@ -97,7 +79,7 @@ pub fn read_next(registers: &[u8; 7], readout: &mut ReadOut) -> Result<u8, Chann
     if readout.unread == 0 {
         return Err(ChannelFault::NothingUnread);
     }
-    let byte = registers[lowest(readout.unread) as usize];
+    let byte = registers[lowest(readout.unread)];
     unmark(readout);
     Ok(byte)
 }

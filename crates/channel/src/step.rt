@@ -1,19 +1,7 @@
 // What a byte's read or write answers.
-use control::fields::Space;
-use registers::answer::{Kind, Mark};
+use registers::answer::Move;
 
-// What a cycle answers but for its T-cycles.
-#[derive(Clone, Copy)]
-pub(crate) struct Move {
-    pub kind: Kind,
-    pub space: Space,
-    pub address: u16,
-    pub byte: u8,
-    pub mark: Mark,
-    pub pulse: bool,
-}
-
-#[derive(Clone, Copy)]
+#[derive(Clone, Copy, Debug, PartialEq, Eq)]
 pub(crate) struct Step {
     pub made: Move,
     // it found a match

@@ -2,7 +2,8 @@
 ghost use Rattle.std.specs.Prelude.{◌≡◌};
 ghost use Rattle.registers.specs.Times.{base_time, takes_waits, time_of, timing_of};
 
-use control::fields::{PortName, Space, Timing};
+use crate::ports::{of_port, other};
+use control::fields::{Space, Timing};
 use registers::answer::Kind;
 use registers::manner::Manner;
 use registers::program::Program;
@@ -35,9 +36,9 @@ pub(crate) fn takes_waits(timing: Option<Timing>, space: Space) -> bool
 pub(crate) fn time_of(heed: bool, timing: Option<Timing>, space: Space, waits: u8) -> u16
     ensures { result ≡ time_of heed timing space waits }
 {
-    let base = base_time(timing, space) as u16;
+    let base = u16::from(base_time(timing, space));
     if heed && takes_waits(timing, space) {
-        base + waits as u16
+        base + u16::from(waits)
     } else {
         base
     }
@@ -47,11 +48,9 @@ pub(crate) fn time_of(heed: bool, timing: Option<Timing>, space: Space, waits: u
 pub(crate) fn timing_of(kind: Kind, program: &Program, manner: &Manner) -> Option<Timing>
     ensures { result ≡ timing_of kind program.now manner.now }
 {
-    match (kind, program.source) {
-        (Kind::Read, PortName::A) => manner.a,
-        (Kind::Read, PortName::B) => manner.b,
-        (Kind::Write, PortName::A) => manner.b,
-        (Kind::Write, PortName::B) => manner.a,
-        (Kind::Idle | Kind::Release, _) => None,
+    match kind {
+        Kind::Read => of_port(program.source, manner.a, manner.b),
+        Kind::Write => of_port(other(program.source), manner.a, manner.b),
+        Kind::Idle | Kind::Release => None,
     }
 }

@@ -2,10 +2,11 @@
 use Rattle.std.proofs.Common.{◌≡◌, ℕ, Bool, ◌&&◌, List, [], ◌∷◌, ◌++◌, Some, None, Option, sym, refl, ap, ◌∙◌, subst, inl, inr, append_assoc, append-nil}
 use Rattle.control.specs.declared.fields.Class.{Class}
 use Rattle.control.specs.declared.fields.Class.TheVariants.{Transfer, Search, Both}
+use Rattle.registers.specs.declared.answer.Move.{Move}
 use Rattle.registers.specs.declared.manner.Manner.{Manner}
 use Rattle.registers.specs.declared.program.Program.{Program}
 use Rattle.registers.specs.declared.progress.Progress.{Progress}
-use Rattle.registers.specs.Bytes.{Move, step_on, read_step, is_last, matches}
+use Rattle.registers.specs.Bytes.{step_on, read_step, is_last, matches}
 use Rattle.registers.specs.Calls.{Event}
 use Rattle.registers.specs.Contents.{Contents}
 use Rattle.laws.specs.Events.{move_of, read_in, written_in, transfer_reads, bytes_written, as_list, held_in}

@@ -3,9 +3,9 @@ use Rattle.std.proofs.Common.{◌≡◌, ℕ, Bool, true, false, List, [], ◌�
 use Rattle.std.proofs.lemmas.Bool.{false≢true, true≢false}
 use Rattle.registers.specs.declared.answer.Mark.{Mark}
 use Rattle.registers.specs.declared.answer.Mark.TheVariants as mark
+use Rattle.registers.specs.declared.answer.Move.{Move}
 use Rattle.registers.specs.declared.manner.Manner.{Manner}
 use Rattle.registers.specs.declared.program.Program.{Program}
-use Rattle.registers.specs.Bytes.{Move}
 use Rattle.registers.specs.Calls.{State, Event, Call, events}
 use Rattle.registers.specs.Numbers.{ends_block, stops, final}
 use Rattle.laws.specs.Blocks.{NothingFollowsAnEnd, NothingFollowsAStop}

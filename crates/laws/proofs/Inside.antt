@@ -7,11 +7,12 @@ use Rattle.control.specs.declared.fields.PortName.{PortName}
 use Rattle.control.specs.declared.fields.PortName.TheVariants.{A, B}
 use Rattle.registers.specs.declared.answer.Kind.{Kind}
 use Rattle.registers.specs.declared.answer.Kind.TheVariants.{Read, Write}
+use Rattle.registers.specs.declared.answer.Move.{Move}
 use Rattle.registers.specs.declared.program.Port.{Port}
 use Rattle.registers.specs.declared.program.Program.{Program}
 use Rattle.registers.specs.declared.progress.Progress.{Progress}
 use Rattle.registers.specs.declared.row.Registers.{Registers}
-use Rattle.registers.specs.Bytes.{Move, Step, step, step_on, read_step, finished_mark, is_last, matches, taken_in, put_out, counted, closed, finished}
+use Rattle.registers.specs.Bytes.{Step, step, step_on, read_step, finished_mark, is_last, matches, taken_in, put_out, counted, closed, finished}
 use Rattle.registers.specs.Contents.{Contents}
 use Rattle.registers.specs.Numbers.{finishes, ends_block, final, is_read, is_write}
 use Rattle.registers.specs.Ports.{of_port, moved, address_of, source_port, destination_port, source_counter, destination_counter}

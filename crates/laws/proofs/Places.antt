@@ -3,10 +3,10 @@ use Rattle.std.proofs.Common.{◌≡◌, ℕ, zero, suc, ◌+◌, ◌*◌, ◌<�
 use Rattle.std.proofs.lemmas.Bool.{false≢true}
 use Rattle.registers.specs.declared.answer.Kind.{Kind}
 use Rattle.registers.specs.declared.answer.Kind.TheVariants.{Read, Write, Idle, Release}
+use Rattle.registers.specs.declared.answer.Move.{Move}
 use Rattle.registers.specs.declared.manner.Manner.{Manner}
 use Rattle.registers.specs.declared.progress.Progress.{Progress}
 use Rattle.registers.specs.declared.row.Registers.{Registers}
-use Rattle.registers.specs.Bytes.{Move}
 use Rattle.registers.specs.Calls.{State, Event, Call, events}
 use Rattle.registers.specs.Numbers.{finishes, final, is_read, is_write}
 use Rattle.laws.specs.Blocks.{ComesAfter, last_byte, was_active, ReadsHaveTheirPlaces, WritesHaveTheirPlaces, OneByteEndsTheBlock, OverInTime, CyclesAreOfFourKinds}

@@ -8,6 +8,7 @@ use Rattle.registers.specs.declared.answer.Kind.{Kind}
 use Rattle.registers.specs.declared.answer.Kind.TheVariants.{Idle, Release}
 use Rattle.registers.specs.declared.answer.Mark.{Mark}
 use Rattle.registers.specs.declared.answer.Mark.TheVariants as mark
+use Rattle.registers.specs.declared.answer.Move.{Move}
 use Rattle.registers.specs.declared.input.CycleInput.{CycleInput}
 use Rattle.registers.specs.declared.latches.Latches.{Latches}
 use Rattle.registers.specs.declared.manner.Manner.{Manner}
@@ -16,7 +17,7 @@ use Rattle.registers.specs.declared.progress.Progress.{Progress}
 use Rattle.registers.specs.declared.row.Loan.{Loan}
 use Rattle.registers.specs.declared.row.Loan.TheVariants.{Closed, Master, Released}
 use Rattle.registers.specs.declared.row.Registers.{Registers}
-use Rattle.registers.specs.Bytes.{Move, Step, step, latched}
+use Rattle.registers.specs.Bytes.{Step, step, latched}
 use Rattle.registers.specs.Calls.{State, cycled_state, state_on, state_after, state_after_all}
 use Rattle.registers.specs.Contents.{Contents}
 use Rattle.registers.specs.Cycles.{Cycled, is_active, loan_after, pause_kind, loan_paused, worked, paused, cycled_on, cycled}

@@ -2,8 +2,8 @@
 use Rattle.std.specs.Prelude.{◌≡◌, ℕ, zero, suc, ◌+◌, ◌-◌, ◌*◌, ◌<◌, ◌≤◌, Bool, true, false, ◌↔◌, List, [], ◌∷◌, ◌++◌, length}
 use Rattle.control.specs.declared.fields.AddressRule.{AddressRule}
 use Rattle.registers.specs.declared.answer.Kind.TheVariants.{Read, Write}
+use Rattle.registers.specs.declared.answer.Move.{Move}
 use Rattle.registers.specs.declared.row.Registers.{Registers}
-use Rattle.registers.specs.Bytes.{Move}
 use Rattle.registers.specs.Calls.{State, Event, Call, events}
 use Rattle.registers.specs.Cycles.{is_active}
 use Rattle.registers.specs.Numbers.{ends_block, stops}

@@ -2,10 +2,10 @@
 use Rattle.std.specs.Prelude.{◌≡◌, ◌<◌, Bool, true, false, T, List, [], ◌∷◌, ◌++◌}
 use Rattle.registers.specs.declared.answer.Kind.{Kind}
 use Rattle.registers.specs.declared.answer.Kind.TheVariants.{Read, Write, Idle, Release}
+use Rattle.registers.specs.declared.answer.Move.{Move}
 use Rattle.registers.specs.declared.program.Program.{Program}
 use Rattle.registers.specs.declared.progress.Progress.{Progress}
 use Rattle.registers.specs.declared.row.Loan.TheVariants.{Closed}
-use Rattle.registers.specs.Bytes.{Move}
 use Rattle.registers.specs.Calls.{State, Event, Call, write_call, table_call, status_call, open_call, cycle_call, run_call, return_call, acknowledge_call, reti_call, events, state_at_end}
 use Rattle.registers.specs.Contents.{SameContents}
 use Rattle.registers.specs.Numbers.{final}

@@ -4,8 +4,8 @@ use Rattle.control.specs.declared.fields.Class.TheVariants.{Transfer, Both}
 use Rattle.registers.specs.declared.answer.Kind.{Kind}
 use Rattle.registers.specs.declared.answer.Kind.TheVariants.{Read, Write, Idle, Release}
 use Rattle.registers.specs.declared.answer.Mark.TheVariants.{Unfinished}
+use Rattle.registers.specs.declared.answer.Move.{Move}
 use Rattle.registers.specs.declared.input.CycleInput.{CycleInput}
-use Rattle.registers.specs.Bytes.{Move}
 use Rattle.registers.specs.Calls.{State, Event, Call, cycle_of, events, state_at_end}
 use Rattle.registers.specs.Chips.{power_on}
 use Rattle.registers.specs.Contents.{Contents, byte_at, after_read, after_write}

@@ -3,7 +3,7 @@ use Rattle.std.specs.Prelude.{ℕ, suc, Bool, true, false, not, List, [], ◌∷
 use Rattle.registers.specs.declared.answer.Kind.{Kind}
 use Rattle.registers.specs.declared.answer.Kind.TheVariants.{Read, Write, Idle, Release}
 use Rattle.registers.specs.declared.answer.Mark.{Mark}
-use Rattle.registers.specs.Bytes.{Move}
+use Rattle.registers.specs.declared.answer.Move.{Move}
 use Rattle.registers.specs.Calls.{Event, State}
 use Rattle.registers.specs.Numbers.{finishes, final, is_read, is_write}
 

@@ -2,11 +2,10 @@
 use Rattle.std.specs.Prelude.{ℕ, ◌+◌, ◌-◌, ◌%◌, Bool, true, false, ◌&&◌, ◌||◌, Some, None, Option, ◌==◌, bit_and, bit_xor}
 use Rattle.control.specs.declared.fields.Class.{Class}
 use Rattle.control.specs.declared.fields.Class.TheVariants.{Transfer, Search, Both}
-use Rattle.control.specs.declared.fields.Space.{Space}
-use Rattle.registers.specs.declared.answer.Kind.{Kind}
 use Rattle.registers.specs.declared.answer.Kind.TheVariants.{Read, Write}
 use Rattle.registers.specs.declared.answer.Mark.{Mark}
 use Rattle.registers.specs.declared.answer.Mark.TheVariants as mark
+use Rattle.registers.specs.declared.answer.Move.{Move}
 use Rattle.registers.specs.declared.latches.Latches.{Latches}
 use Rattle.registers.specs.declared.program.Program.{Program}
 use Rattle.registers.specs.declared.progress.Progress.{Progress}
@@ -84,15 +83,6 @@ matches p None = false
 matches p (Some b) = equal_where_0 p.search.mask p.search.pattern b
 
 -- A BYTE'S READ AND WRITE
-
--- what a cycle answers but for its T-cycles
-pub record Move : Type 0 where
-  pub kind : Kind
-  pub space : Space
-  pub address : ℕ
-  pub byte : ℕ
-  pub mark : Mark
-  pub pulse : Bool
 
 -- a read or a write: what it answers, whether it found a match, and what it leaves
 pub record Step : Type 0 where

@@ -10,6 +10,7 @@ use Rattle.registers.specs.declared.answer.Kind.{Kind}
 use Rattle.registers.specs.declared.answer.Kind.TheVariants.{Idle, Release}
 use Rattle.registers.specs.declared.answer.Mark.{Mark}
 use Rattle.registers.specs.declared.answer.Mark.TheVariants.{Unfinished}
+use Rattle.registers.specs.declared.answer.Move.{Move}
 use Rattle.registers.specs.declared.input.CycleInput.{CycleInput}
 use Rattle.registers.specs.declared.latches.Latches.{Latches}
 use Rattle.registers.specs.declared.manner.Manner.{Manner}
@@ -17,7 +18,7 @@ use Rattle.registers.specs.declared.progress.Progress.{Progress}
 use Rattle.registers.specs.declared.row.Loan.{Loan}
 use Rattle.registers.specs.declared.row.Loan.TheVariants.{Master, Released}
 use Rattle.registers.specs.declared.row.Registers.{Registers}
-use Rattle.registers.specs.Bytes.{Move, step, latched}
+use Rattle.registers.specs.Bytes.{step, latched}
 use Rattle.registers.specs.Contents.{Contents}
 use Rattle.registers.specs.Numbers.{finishes, final}
 use Rattle.registers.specs.Times.{time_of, timing_of}

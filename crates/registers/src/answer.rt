@@ -1,5 +1,6 @@
 // What a cycle answers.
-ghost use Rattle.std.specs.Prelude.{Some};
+ghost use Rattle.std.specs.Prelude.{◌≡◌, Some};
+ghost use Rattle.registers.specs.Cycles.{timed};
 ghost use Rattle.registers.specs.Words.{kind_word};
 
 use control::fields::Space;
@@ -33,7 +34,18 @@ pub enum Mark {
     Both,
 }
 
-#[derive(Clone, Copy, PartialEq, Eq)]
+// What a cycle answers but for its T-cycles.
+#[derive(Clone, Copy, Debug, PartialEq, Eq)]
+pub struct Move {
+    pub kind: Kind,
+    pub space: Space,
+    pub address: u16,
+    pub byte: u8,
+    pub mark: Mark,
+    pub pulse: bool,
+}
+
+#[derive(Clone, Copy, Debug, PartialEq, Eq)]
 pub struct Answer {
     pub kind: Kind,
     pub space: Space,
@@ -42,4 +54,21 @@ pub struct Answer {
     pub time: u16,
     pub mark: Mark,
     pub pulse: bool,
+}
+
+impl Move {
+    // The answer with its T-cycles.
+    pub fn timed(self, time: u16) -> Answer
+        ensures { result ≡ timed self time }
+    {
+        Answer {
+            kind: self.kind,
+            space: self.space,
+            address: self.address,
+            byte: self.byte,
+            time,
+            mark: self.mark,
+            pulse: self.pulse,
+        }
+    }
 }

@@ -4,7 +4,7 @@ ghost use Rattle.registers.specs.declared.fault.ChannelFault.TheVariants.{Decode
 
 use control::fault::DecodeFault;
 
-#[derive(Clone, Copy)]
+#[derive(Clone, Copy, Debug, PartialEq, Eq)]
 pub enum ChannelFault {
     LoanOpen,
     // the control byte's own fault, whole

@@ -2,7 +2,7 @@
 // differ and still move the same bytes to the same places.
 use control::fields::{Level, Mode, Timing};
 
-#[derive(Clone, Copy, PartialEq, Eq)]
+#[derive(Clone, Copy, Debug, PartialEq, Eq)]
 pub struct Manner {
     pub mode: Mode,
     // the ports' timings; none is the default

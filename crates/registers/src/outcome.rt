@@ -3,7 +3,7 @@ use crate::answer::Answer;
 use crate::fault::ChannelFault;
 use control::fault::TableFault;
 
-#[derive(Clone, Copy)]
+#[derive(Clone, Copy, Debug, PartialEq, Eq)]
 pub enum Outcome {
     Wrote(Result<(), ChannelFault>),
     WroteTable(Result<(), TableFault<ChannelFault>>),

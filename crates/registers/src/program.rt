@@ -1,14 +1,14 @@
 // What is programmed and decides which bytes go where. No cycle changes it.
 use control::fields::{AddressRule, Class, InterruptControl, PortName, Space};
 
-#[derive(Clone, Copy, PartialEq, Eq)]
+#[derive(Clone, Copy, Debug, PartialEq, Eq)]
 pub struct Port {
     pub space: Space,
     pub rule: AddressRule,
     pub start: u16,
 }
 
-#[derive(Clone, Copy, PartialEq, Eq)]
+#[derive(Clone, Copy, Debug, PartialEq, Eq)]
 pub struct Search {
     // a bit that is 0 is compared
     pub mask: u8,
@@ -18,7 +18,7 @@ pub struct Search {
     pub stop: bool,
 }
 
-#[derive(Clone, Copy, PartialEq, Eq)]
+#[derive(Clone, Copy, Debug, PartialEq, Eq)]
 pub struct Signals {
     pub control: InterruptControl,
     // the pulse byte
@@ -26,7 +26,7 @@ pub struct Signals {
     pub vector: u8,
 }
 
-#[derive(Clone, Copy, PartialEq, Eq)]
+#[derive(Clone, Copy, Debug, PartialEq, Eq)]
 pub struct Program {
     pub class: Class,
     pub source: PortName,

@@ -18,7 +18,7 @@ pub struct Service {
 }
 
 // Where the CPU is in a group of control bytes.
-#[derive(Clone, Copy)]
+#[derive(Clone, Copy, Debug, PartialEq, Eq)]
 pub struct Sequence {
     // the followers still due
     pub due: Followers,
@@ -44,7 +44,7 @@ impl fmt::Display for Loan {
     }
 }
 
-#[derive(Clone, Copy)]
+#[derive(Clone, Copy, Debug, PartialEq, Eq)]
 pub struct Registers {
     pub program: Program,
     pub manner: Manner,
