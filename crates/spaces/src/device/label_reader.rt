@@ -1,5 +1,5 @@
 // A label reader: the bytes of a slice wait at one port. A slice held for reading, with a cursor.
-ghost use Rattle.std.specs.Prelude.{◌≡◌, ◌+◌, ◌<◌, [], ◌∷◌, length, drop, MatchOption};
+ghost use Rattle.std.specs.Prelude.{◌≡◌};
 ghost use Rattle.spaces.specs.Devices.{source, label_reader, label_reader_frame};
 ghost use Rattle.spaces.specs.Ports.{only};
 
@@ -29,10 +29,7 @@ impl<'a> LabelReader<'a> {
     pub fn waiting(&self) -> &[u8]
         ensures { label_reader self.now ≡ only self.now.port (source result.now) }
     {
-        match self.labels.get(self.cursor..) {
-            Some(waiting) => waiting,
-            None => &[],
-        }
+        self.labels.get(self.cursor..).unwrap_or_default()
     }
 }
 

@@ -1,5 +1,5 @@
 // Lent RAM: a lent slice from a first address on. The part of it past the last address is never touched.
-ghost use Rattle.std.specs.Prelude.{◌≡◌, ◌+◌, ◌<◌, length, slice_set};
+ghost use Rattle.std.specs.Prelude.{◌≡◌, length};
 ghost use Rattle.spaces.specs.Cells.{ram, place, stored, put};
 ghost use Rattle.spaces.specs.Memories.{lent_ram, lent_ram_frame};
 
