@@ -1,5 +1,5 @@
 // A count of the first bytes, each of them decoded.
-ghost use Rattle.std.specs.Prelude.{◌≡◌, ◌+◌, ◌<◌};
+ghost use Rattle.std.specs.Prelude.{◌≡◌, ◌+◌};
 ghost use Rattle.control.specs.Firsts.{decoded_first};
 ghost use Rattle.control.specs.Counts.{census_below, tallied, Few};
 

@@ -4,7 +4,7 @@ ghost use Rattle.std.specs.Prelude.{◌≡◌};
 ghost use Rattle.control.specs.Firsts.{group_of, followers_of, decoded_first, group_said};
 ghost use Rattle.control.specs.Followers.{decoded_follower, interrupt_followers, ahead, listed};
 ghost use Rattle.control.specs.Laws.{Exact};
-ghost use Rattle.control.specs.Tables.{entry_of, ruled, due_after, decoded, at_place, table_decoded};
+ghost use Rattle.control.specs.Tables.{entry_of, due_after, decoded, at_place, table_decoded};
 
 use crate::bits::*;
 use crate::decoded::{ControlByte, Decoded};
