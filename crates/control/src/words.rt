@@ -1,10 +1,11 @@
 // The words that a report prints.
-ghost use Rattle.std.specs.Prelude.{◌≡◌};
+ghost use Rattle.std.specs.Prelude.{◌≡◌, Some};
 ghost use Rattle.control.specs.Words.{class_word, port_word, space_word, rule_word, mode_word, level_word, group_word, command_word, follower_word};
 
 use crate::fields::{AddressRule, Class, Level, Mode, PortName, Space};
 use crate::first::{Command, Group};
 use crate::follower::Follower;
+use std::fmt;
 
 impl Class {
     pub fn word(self) -> &'static str
@@ -15,6 +16,14 @@ impl Class {
             Class::Search => "search",
             Class::Both => "both",
         }
+    }
+}
+
+impl fmt::Display for Class {
+    ghost output = { λ x. Some (class_word x) };
+
+    fn fmt<W: fmt::Write>(&self, f: &mut fmt::Formatter<W>) -> fmt::Result {
+        f.write_str(self.word())
     }
 }
 
@@ -29,6 +38,14 @@ impl PortName {
     }
 }
 
+impl fmt::Display for PortName {
+    ghost output = { λ x. Some (port_word x) };
+
+    fn fmt<W: fmt::Write>(&self, f: &mut fmt::Formatter<W>) -> fmt::Result {
+        f.write_str(self.word())
+    }
+}
+
 impl Space {
     pub fn word(self) -> &'static str
         ensures { result.now ≡ space_word self }
@@ -37,6 +54,14 @@ impl Space {
             Space::Memory => "memory",
             Space::Io => "io",
         }
+    }
+}
+
+impl fmt::Display for Space {
+    ghost output = { λ x. Some (space_word x) };
+
+    fn fmt<W: fmt::Write>(&self, f: &mut fmt::Formatter<W>) -> fmt::Result {
+        f.write_str(self.word())
     }
 }
 
@@ -52,6 +77,14 @@ impl AddressRule {
     }
 }
 
+impl fmt::Display for AddressRule {
+    ghost output = { λ x. Some (rule_word x) };
+
+    fn fmt<W: fmt::Write>(&self, f: &mut fmt::Formatter<W>) -> fmt::Result {
+        f.write_str(self.word())
+    }
+}
+
 impl Mode {
     pub fn word(self) -> &'static str
         ensures { result.now ≡ mode_word self }
@@ -64,6 +97,14 @@ impl Mode {
     }
 }
 
+impl fmt::Display for Mode {
+    ghost output = { λ x. Some (mode_word x) };
+
+    fn fmt<W: fmt::Write>(&self, f: &mut fmt::Formatter<W>) -> fmt::Result {
+        f.write_str(self.word())
+    }
+}
+
 impl Level {
     pub fn word(self) -> &'static str
         ensures { result.now ≡ level_word self }
@@ -72,6 +113,14 @@ impl Level {
             Level::Low => "low",
             Level::High => "high",
         }
+    }
+}
+
+impl fmt::Display for Level {
+    ghost output = { λ x. Some (level_word x) };
+
+    fn fmt<W: fmt::Write>(&self, f: &mut fmt::Formatter<W>) -> fmt::Result {
+        f.write_str(self.word())
     }
 }
 
@@ -88,6 +137,14 @@ impl Group {
             Group::Wr5 => "WR5",
             Group::Wr6 => "WR6",
         }
+    }
+}
+
+impl fmt::Display for Group {
+    ghost output = { λ x. Some (group_word x) };
+
+    fn fmt<W: fmt::Write>(&self, f: &mut fmt::Formatter<W>) -> fmt::Result {
+        f.write_str(self.word())
     }
 }
 
@@ -115,6 +172,14 @@ impl Command {
     }
 }
 
+impl fmt::Display for Command {
+    ghost output = { λ x. Some (command_word x) };
+
+    fn fmt<W: fmt::Write>(&self, f: &mut fmt::Formatter<W>) -> fmt::Result {
+        f.write_str(self.word())
+    }
+}
+
 impl Follower {
     pub fn word(self) -> &'static str
         ensures { result.now ≡ follower_word self }
@@ -135,5 +200,13 @@ impl Follower {
             Follower::Vector => "vector",
             Follower::ReadMask => "read-mask",
         }
+    }
+}
+
+impl fmt::Display for Follower {
+    ghost output = { λ x. Some (follower_word x) };
+
+    fn fmt<W: fmt::Write>(&self, f: &mut fmt::Formatter<W>) -> fmt::Result {
+        f.write_str(self.word())
     }
 }
