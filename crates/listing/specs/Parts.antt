@@ -15,11 +15,11 @@ bit_word true = codes "1"
 bit_word false = codes "0"
 
 -- one word after another
-unfoldable pub spaced : List ℕ → List ℕ → List ℕ
+abbrev pub spaced : List ℕ → List ℕ → List ℕ
 spaced one other = one ++ (codes " " ++ other)
 
 -- a field by its name, with a space in front of it
-unfoldable pub field : List ℕ → List ℕ → List ℕ
+abbrev pub field : List ℕ → List ℕ → List ℕ
 field name words = codes " (" ++ (name ++ (codes " " ++ (words ++ codes ")")))
 
 -- a field of one bit

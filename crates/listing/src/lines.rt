@@ -1,93 +1,104 @@
 // The lines of a listing, each by itself: of a byte, and of the whole table.
-ghost use Rattle.std.specs.Prelude.{◌≡◌, IfOk, string_bytes};
-ghost use Rattle.listing.specs.Lines.{refused_words, accepted_words, byte_words, byte_line, accepted_line, outcome_line};
+ghost use Rattle.std.specs.Prelude.{Some};
+ghost use Rattle.listing.specs.Lines.{refused_words, byte_words, byte_line, outcome_line};
 
-use crate::first::first_words;
-use crate::follower::{announced_words, carried_words, due_word};
-use crate::parts::hexadecimal_byte;
+use crate::first::FirstWords;
+use crate::follower::{Announced, Carried, Due};
 use control::decoded::{ControlByte, Decoded};
 use control::fault::{DecodeFault, TableFault};
 use control::follower::{Follower, Followers};
-use std::alloc::{AllocError, Global};
+use std::fmt;
 
-fn refused_words(heap: Global, fault: DecodeFault) -> Result<String, AllocError>
-    ensures { IfOk result (λ s. string_bytes s ≡ refused_words fault) }
-{
-    Ok(format!(in heap; "(refused {})", fault.number())?)
-}
+#[derive(Clone, Copy)]
+struct Refused(DecodeFault);
 
-fn accepted_words(
-    heap: Global,
-    was: Option<Follower>,
-    control: ControlByte,
-    due: Followers,
-) -> Result<String, AllocError>
-    ensures { IfOk result (λ s. string_bytes s ≡ accepted_words was control due) }
-{
-    match control {
-        ControlByte::First(first) => {
-            let words = first_words(heap, first)?;
-            let followers = announced_words(heap, due)?;
-            Ok(format!(in heap; "{words}{followers}")?)
-        }
-        ControlByte::Follower(carried) => {
-            let name = due_word(was);
-            let words = carried_words(heap, carried, due)?;
-            Ok(format!(in heap; "{name}{words}")?)
-        }
+impl fmt::Display for Refused {
+    ghost output = { λ x. Some (refused_words x.0) };
+
+    fn fmt<W: fmt::Write>(&self, f: &mut fmt::Formatter<W>) -> fmt::Result {
+        write!(f, "(refused {})", self.0.number())
     }
 }
 
-fn byte_words(
-    heap: Global,
+// What a byte says where this was due.
+#[derive(Clone, Copy)]
+struct ByteWords {
     was: Option<Follower>,
     answer: Result<Decoded, DecodeFault>,
-) -> Result<String, AllocError>
-    ensures { IfOk result (λ s. string_bytes s ≡ byte_words was answer) }
-{
-    match answer {
-        Ok(decoded) => accepted_words(heap, was, decoded.control, decoded.due),
-        Err(fault) => refused_words(heap, fault),
+}
+
+impl fmt::Display for ByteWords {
+    ghost output = { λ x. Some (byte_words x.was x.answer) };
+
+    fn fmt<W: fmt::Write>(&self, f: &mut fmt::Formatter<W>) -> fmt::Result {
+        match self.answer {
+            Ok(
+                Decoded {
+                    control: ControlByte::First(first),
+                    due,
+                },
+            ) => write!(f, "{}{}", FirstWords(first), Announced(due)),
+            Ok(
+                Decoded {
+                    control: ControlByte::Follower(byte),
+                    due,
+                },
+            ) => write!(f, "{}{}", Due(self.was), Carried { byte, due }),
+            Err(fault) => write!(f, "{}", Refused(fault)),
+        }
     }
 }
 
 // The line of a byte, by the followers that were due at its place and how it was decoded.
-pub(crate) fn byte_line(
-    heap: Global,
-    place: usize,
-    due: Followers,
-    byte: u8,
-    answer: Result<Decoded, DecodeFault>,
-) -> Result<String, AllocError>
-    ensures { IfOk result (λ s. string_bytes s ≡ byte_line place due byte answer) }
-{
-    let digits = hexadecimal_byte(heap, byte)?;
-    let words = byte_words(heap, due.next(), answer)?;
-    format!(in heap; "({place} {digits} {words})\n")
+#[derive(Clone, Copy)]
+pub(crate) struct ByteLine {
+    pub(crate) place: usize,
+    pub(crate) due: Followers,
+    pub(crate) byte: u8,
+    pub(crate) answer: Result<Decoded, DecodeFault>,
 }
 
-fn accepted_line(heap: Global, count: usize, due: Option<Follower>) -> Result<String, AllocError>
-    ensures { IfOk result (λ s. string_bytes s ≡ accepted_line count due) }
-{
-    match due {
-        None => format!(in heap; "(table {count})\n"),
-        Some(follower) => format!(in heap; "(table {count} (due {}))\n", follower.word()),
+impl fmt::Display for ByteLine {
+    ghost output = { λ x. Some (byte_line x.place x.due x.byte x.answer) };
+
+    fn fmt<W: fmt::Write>(&self, f: &mut fmt::Formatter<W>) -> fmt::Result {
+        let ByteLine {
+            place,
+            due,
+            byte,
+            answer,
+        } = *self;
+        let words = ByteWords {
+            was: due.next(),
+            answer,
+        };
+        writeln!(f, "({place} {byte:02X} {words})")
     }
 }
 
 // The last line, of a table of so many bytes.
-pub(crate) fn outcome_line(
-    heap: Global,
-    count: usize,
-    outcome: Result<Followers, TableFault<DecodeFault>>,
-) -> Result<String, AllocError>
-    ensures { IfOk result (λ s. string_bytes s ≡ outcome_line count outcome) }
-{
-    match outcome {
-        Ok(due) => accepted_line(heap, count, due.next()),
-        Err(TableFault { place, due, fault }) => {
-            let refused = refused_words(heap, fault)?;
-            format!(in heap; "(table {refused} (at {place}) (due {}))\n", due_word(due))
+#[derive(Clone, Copy)]
+pub(crate) struct OutcomeLine {
+    pub(crate) count: usize,
+    pub(crate) outcome: Result<Followers, TableFault<DecodeFault>>,
+}
+
+impl fmt::Display for OutcomeLine {
+    ghost output = { λ x. Some (outcome_line x.count x.outcome) };
+
+    fn fmt<W: fmt::Write>(&self, f: &mut fmt::Formatter<W>) -> fmt::Result {
+        let count = self.count;
+        match self.outcome {
+            Ok(due) => match due.next() {
+                None => writeln!(f, "(table {count})"),
+                Some(follower) => writeln!(f, "(table {count} (due {follower}))"),
+            },
+            Err(TableFault { place, due, fault }) => writeln!(
+                f,
+                "(table {} (at {place}) (due {}))",
+                Refused(fault),
+                Due(due)
+            ),
         }
     }
 }

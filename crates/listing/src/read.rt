@@ -41,10 +41,8 @@ fn read_line<'a>(
     ensures { IfErr result Refusal }
 {
     for word in words(heap, text)? {
-        match byte(word) {
-            Some(value) => bytes.push(value)?,
-            None => return Err(ReadFault::NoByte { line, word }),
-        }
+        let value = byte(word).ok_or(ReadFault::NoByte { line, word })?;
+        bytes.push(value)?;
     }
     Ok(())
 }

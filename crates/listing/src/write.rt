@@ -2,7 +2,7 @@
 ghost use Rattle.std.specs.Prelude.{◌≡◌, IfOk, string_bytes};
 ghost use Rattle.listing.specs.Lines.{byte_lines, listing_of};
 
-use crate::lines::{byte_line, outcome_line};
+use crate::lines::{ByteLine, OutcomeLine};
 use control::decode::{decode, decode_table};
 use control::follower::Followers;
 use std::alloc::{AllocError, Global};
@@ -12,10 +12,15 @@ fn byte_lines(heap: Global, bytes: &[u8]) -> Result<String, AllocError>
 {
     let mut lines = String::new(heap);
     let mut due = Followers::Zero;
-    for (place, byte) in bytes.iter().enumerate() {
-        let answer = decode(due, *byte);
-        let line = byte_line(heap, place, due, *byte, answer)?;
-        lines.push_str(line.as_str())?;
+    for (place, &byte) in bytes.iter().enumerate() {
+        let answer = decode(due, byte);
+        let line = ByteLine {
+            place,
+            due,
+            byte,
+            answer,
+        };
+        write!(lines, "{line}")?;
         match answer {
             Ok(taken) => due = taken.due,
             Err(_) => return Ok(lines),
@@ -29,6 +34,9 @@ pub fn listing(heap: Global, bytes: &[u8]) -> Result<String, AllocError>
     ensures { IfOk result (λ s. string_bytes s ≡ listing_of bytes.now) }
 {
     let lines = byte_lines(heap, bytes)?;
-    let last = outcome_line(heap, bytes.len(), decode_table(bytes))?;
+    let last = OutcomeLine {
+        count: bytes.len(),
+        outcome: decode_table(bytes),
+    };
     format!(in heap; "{lines}{last}")
 }
