@@ -1,25 +1,19 @@
 -- The lines of a text and the words of a line. Assumes nothing.
-use Rattle.std.specs.Prelude.{ℕ, cond, List, [], ◌∷◌, ◌++◌, map, length, ◌==◌}
+use Rattle.std.specs.Prelude.{ℕ, List, map, filter, length, not, ◌==◌}
 use Rattle.std.specs.Borrow.{Bor}
+use Rattle.std.specs.List.{slice_split, before_first}
 
--- the parts of a text between one separator s and the next, empty ones too, where w is read of the first part
-abbrev pub parts_after : ℕ → List ℕ → List ℕ → List (List ℕ)
-parts_after s w [] = w ∷ []
-parts_after s w (c ∷ cs) = cond (c == s) (w ∷ parts_after s [] cs) (parts_after s (w ++ c ∷ []) cs)
-
--- all the parts of a text: of the first, nothing is read yet
+-- the parts of a text between one separator s and the next, empty ones too
 abbrev pub parts_of : ℕ → List ℕ → List (List ℕ)
-parts_of s cs = parts_after s [] cs
+parts_of s cs = slice_split (λ c. c == s) cs
 
 -- the part of a line in front of a comment, which a `#` starts
 abbrev pub uncommented_of : List ℕ → List ℕ
-uncommented_of [] = []
-uncommented_of (c ∷ cs) = cond (c == 35) [] (c ∷ uncommented_of cs)
+uncommented_of cs = before_first (λ c. c == 35) cs
 
 -- the parts that are not empty
 abbrev pub not_empty : List (List ℕ) → List (List ℕ)
-not_empty [] = []
-not_empty (w ∷ ws) = cond (length w == 0) (not_empty ws) (w ∷ not_empty ws)
+not_empty ws = filter (λ w. not (length w == 0)) ws
 
 -- the lines of a text: what its line feeds part
 abbrev pub lines_of : List ℕ → List (List ℕ)

@@ -1,5 +1,5 @@
 // Numbers as they are written in scripts and tables.
-ghost use Rattle.std.specs.Prelude.{◌≡◌, ◌<◌, MatchOption};
+ghost use Rattle.std.specs.Prelude.{◌≡◌};
 ghost use Rattle.text.specs.Numerals.{radix_of, digit_of, value_after, at_most, numeral_of, hexadecimal_of};
 
 #[derive(Clone, Copy)]
@@ -22,30 +22,8 @@ impl Base {
     pub fn digit(self, character: u8) -> Option<u8>
         ensures { result ≡ digit_of self character }
     {
-        match self {
-            Base::Decimal => decimal_digit(character),
-            Base::Hexadecimal => hexadecimal_digit(character),
-        }
-    }
-}
-
-fn decimal_digit(character: u8) -> Option<u8>
-    ensures { result ≡ digit_of Base.Decimal character }
-{
-    match character {
-        b'0'..=b'9' => Some(character - b'0'),
-        _ => None,
-    }
-}
-
-fn hexadecimal_digit(character: u8) -> Option<u8>
-    ensures { result ≡ digit_of Base.Hexadecimal character }
-{
-    match character {
-        b'0'..=b'9' => Some(character - b'0'),
-        b'A'..=b'F' => Some(character - b'A' + 10),
-        b'a'..=b'f' => Some(character - b'a' + 10),
-        _ => None,
+        let value = (character as char).to_digit(self.radix() as u32)?;
+        Some(value as u8)
     }
 }
 
@@ -55,9 +33,7 @@ fn value(base: Base, word: &[u8], most: u32) -> Option<u32>
 {
     let mut value = 0u64;
     for character in word {
-        let Some(digit) = base.digit(*character) else {
-            return None;
-        };
+        let digit = base.digit(*character)?;
         value = value * base.radix() as u64 + digit as u64;
         if value > most as u64 {
             return None;
@@ -76,28 +52,26 @@ pub fn numeral(base: Base, word: &[u8], most: u32) -> Option<u32>
     value(base, word, most)
 }
 
+// A hexadecimal word of at most so many digits, where its value is at most `most`.
+fn hexadecimal(digits: usize, most: u32, word: &[u8]) -> Option<u32>
+    ensures { result ≡ hexadecimal_of digits most word.now }
+{
+    if word.len() > digits {
+        return None;
+    }
+    numeral(Base::Hexadecimal, word, most)
+}
+
 // A byte or a port: one or two hexadecimal digits.
 pub fn byte(word: &[u8]) -> Option<u8>
     ensures { result ≡ hexadecimal_of 2 0xff word.now }
 {
-    if word.len() > 2 {
-        return None;
-    }
-    match numeral(Base::Hexadecimal, word, 0xff) {
-        Some(value) => Some(value as u8),
-        None => None,
-    }
+    Some(hexadecimal(2, 0xff, word)? as u8)
 }
 
 // An address: one to four hexadecimal digits.
 pub fn address(word: &[u8]) -> Option<u16>
     ensures { result ≡ hexadecimal_of 4 0xffff word.now }
 {
-    if word.len() > 4 {
-        return None;
-    }
-    match numeral(Base::Hexadecimal, word, 0xffff) {
-        Some(value) => Some(value as u16),
-        None => None,
-    }
+    Some(hexadecimal(4, 0xffff, word)? as u16)
 }

@@ -1,23 +1,39 @@
-use Rattle.std.proofs.Common.{◌+◌, ◌*◌, drop, sym, ap, ◌∙◌, arith}
-use Rattle.text.specs.Numerals.{at_most, value_after, radix_of}
-use Rattle.text.proofs.Values.{onward, over, at_end}
+use Rattle.std.proofs.Common.{◌≡◌, ℕ, ◌+◌, ◌*◌, ◌<◌, List, [], ◌∷◌, Some, None, Option, refl, arith, rules}
+use Rattle.std.proofs.lemmas.List.{drop_all, drop_more}
+use Rattle.std.proofs.lemmas.Bool.Decides.{nat_tests}
+use Rattle.text.specs.declared.numeral.Base.{Base}
+use Rattle.text.specs.declared.numeral.Base.TheVariants.{Decimal, Hexadecimal}
+use Rattle.text.specs.Numerals.{radix_of, digit_of, value_after, at_most}
 use Rattle.text.proofs.numeral.value.Goals as goal
 
-pub returns-in_default : goal.returns-in_default
-returns-in_default c = onward _ c.args.most _ c.args.word.now _ _ _ c.loop-character-test.true c.in_default.ensures c.loop-character.invariant.1
+grown : (b : Base) (m v d : ℕ) → m < v → m < v * radix_of b + d
+grown Decimal m v d h = omega arith
+grown Hexadecimal m v d h = omega arith
+
+-- a value only grows, so one above the limit stays above it
+over : (b : Base) (m v : ℕ) (cs : List ℕ) → m < v → at_most m (value_after b v cs) ≡ None
+over b m v [] h = search rules
+over b m v (c ∷ cs) h = go (digit_of b c) (λ d. over b m (v * radix_of b + d) cs (grown b m v d h)) where
+  go : (o : Option ℕ) → ((d : ℕ) → at_most m (value_after b (v * radix_of b + d) cs) ≡ None) → at_most m (elim o [ None ↦ None | Some d ↦ value_after b (v * radix_of b + d) cs ]) ≡ None
+  go None f = refl
+  go (Some d) f = f d
+
+pub returns-in_err-digit : goal.returns-in_err-digit
+returns-in_err-digit c =
+    let left = rw (drop_more c.args.word.now c.loop-character.character-index 0 c.loop-character-test.true) at c.loop-character.invariant.1 in
+    grind arith
 
 pub returns-then-value-most : goal.returns-then-value-most
 returns-then-value-most c =
-    let b = c.args.base in let v = c.loop-character.value in let d = c.in-Some.digit in
-    let e = onward b c.args.most v c.args.word.now _ _ _ c.loop-character-test.true c.in-Some.ensures c.loop-character.invariant.1 in
-    sym (over b c.args.most (v * radix_of b + d) (drop (c.loop-character.character-index + 1) c.args.word.now) (omega (arith, c.if-value-most.true, ap (λ r. v * r + d) c.radix.ensures))) ∙ e
+    let left = rw (drop_more c.args.word.now c.loop-character.character-index 0 c.loop-character-test.true) at c.loop-character.invariant.1 in
+    grind (arith, over)
 
 pub loop-character-preserved : goal.loop-character-preserved
 loop-character-preserved c =
-    let b = c.args.base in let v = c.loop-character.value in let d = c.in-Some.digit in
-    let e = onward b c.args.most v c.args.word.now _ _ _ c.loop-character-test.true c.in-Some.ensures c.loop-character.invariant.1 in
-    let rest = drop (c.loop-character.character-index + 1) c.args.word.now in
-    (c.if-value-most.false, ap (λ r. at_most c.args.most (value_after b (v * r + d) rest)) c.radix.ensures ∙ e)
+    let left = rw (drop_more c.args.word.now c.loop-character.character-index 0 c.loop-character-test.true) at c.loop-character.invariant.1 in
+    (c.if-value-most.false, grind arith)
 
 pub returns : goal.returns
-returns c = at_end c.args.base c.args.most c.loop-character.value c.args.word.now _ _ c.loop-character-test.false c.loop-character.invariant.0 c.loop-character.invariant.1
+returns c =
+    let left = rw (drop_all c.loop-character.character-index c.args.word.now c.loop-character-test.false) at c.loop-character.invariant.1 in
+    grind (arith, nat_tests)
