@@ -1,6 +1,5 @@
 // What the program `tables` reads and prints: a control table in hexadecimal digits, and its listing.
-// specs/Lines.antt says what each line of a listing is. The functions of text return `Ok(format!(..)?)` where one
-// would write `format!(..)`: at an `Ok` the check has an equation of two texts, which it proves by itself.
+// specs/Lines.antt says what each line of a listing is, specs/Reads.antt which bytes a written table has.
 #![tactic(auto)]
 
 mod first;

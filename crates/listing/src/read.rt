@@ -1,7 +1,9 @@
 // A control table as it is written: bytes of one or two hexadecimal digits, parted by spaces and line ends.
-ghost use Rattle.std.specs.Prelude.{◌≡◌, ◌<◌, IfErr};
+ghost use Rattle.std.specs.Prelude.{◌≡◌, ◌<◌, ◌++◌, map, Some, IfOk, IfErr, OnOk};
 ghost use Rattle.listing.specs.declared.read.ReadFault.TheVariants.{Memory};
-ghost use Rattle.listing.specs.Reads.{Refusal};
+ghost use Rattle.text.specs.Numerals.{hexadecimal_of};
+ghost use Rattle.text.specs.Pieces.{words_of};
+ghost use Rattle.listing.specs.Reads.{table_words, Say, Refusal};
 
 use std::alloc::{AllocError, AllocFailed, Global};
 use text::numeral::byte;
@@ -38,7 +40,8 @@ fn read_line<'a>(
     text: &'a [u8],
 ) -> Result<(), ReadFault<'a>>
     requires { 0 < line }
-    ensures { IfErr result Refusal }
+    ensures bytes { OnOk result (map Some bytes.new.items ≡ map Some bytes.old.items ++ map (hexadecimal_of 2 0xff) (words_of text.now)) }
+    ensures refusal { IfErr result Refusal }
 {
     for word in words(heap, text)? {
         let value = byte(word).ok_or(ReadFault::NoByte { line, word })?;
@@ -49,7 +52,8 @@ fn read_line<'a>(
 
 // The bytes of a table. A word that it refuses is no byte.
 pub fn read_table<'a>(heap: Global, text: &'a [u8]) -> Result<Vec<u8>, ReadFault<'a>>
-    ensures { IfErr result Refusal }
+    ensures bytes { IfOk result (λ v. Say (table_words text.now) v.items) }
+    ensures refusal { IfErr result Refusal }
 {
     let mut bytes = Vec::new(heap);
     for (i, line) in lines(heap, text)?.into_iter().enumerate() {
