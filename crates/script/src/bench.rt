@@ -64,11 +64,10 @@ impl<'a> Bench<'a> {
 
     fn look_at_memory(&self, address: u16, count: u32, out: &mut String) -> Result<(), AllocError> {
         write!(out, "(memory {address:04X}")?;
-        let mut next = address;
-        for _ in 0..count {
-            let byte = self.memory.read(next);
+        // all addresses from this one on: 0000h comes after FFFFh
+        for shown in (address..=u16::MAX).chain(0..address).take(count as usize) {
+            let byte = self.memory.read(shown);
             write!(out, " {byte:02X}")?;
-            next = next.wrapping_add(1);
         }
         writeln!(out, ")")
     }
@@ -85,7 +84,7 @@ impl<'a> Bench<'a> {
     }
 
     fn look_at_latch(&self, port: u8, out: &mut String) -> Result<(), AllocError> {
-        match latched(&self.devices.high, port) {
+        match self.devices.high.high.latched(port) {
             Some(byte) => writeln!(out, "(latch {port:02X} {byte:02X})"),
             None => writeln!(out, "(latch {port:02X})"),
         }
@@ -94,13 +93,8 @@ impl<'a> Bench<'a> {
     fn look_at_labels(&self, out: &mut String) -> Result<(), AllocError> {
         write!(out, "(waiting")?;
         for byte in self.devices.low.waiting() {
-            let byte = *byte;
             write!(out, " {byte:02X}")?;
         }
         writeln!(out, ")")
     }
-}
-
-fn latched(devices: &SplitByPort<ChuteRecord<'_>, LatchBank>, port: u8) -> Option<u8> {
-    devices.high.latched(port)
 }

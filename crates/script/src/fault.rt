@@ -2,7 +2,7 @@
 use std::alloc::{AllocError, AllocFailed};
 use std::fmt;
 
-#[derive(Clone, Copy)]
+#[derive(Clone, Copy, Debug, PartialEq, Eq)]
 pub enum Wrong {
     NotUnderstood,
     NoByte,
@@ -17,16 +17,23 @@ pub enum Wrong {
     NoMemory,
 }
 
-// The line, from 1, and what is wrong with it.
-#[derive(Clone, Copy)]
-pub struct ScriptFault {
-    pub line: usize,
-    pub wrong: Wrong,
+impl Wrong {
+    pub(crate) fn on_line(self, line: usize) -> ScriptFault {
+        ScriptFault {
+            line: Some(line),
+            wrong: self,
+        }
+    }
 }
 
-impl Wrong {
-    fn words(self) -> &'static str {
-        match self {
+impl fmt::Display for Wrong {
+    ghost use Rattle.std.specs.Prelude.{Some};
+    ghost use Rattle.script.specs.Faults.{wrong_words};
+
+    ghost output = { λ w. Some (wrong_words w) };
+
+    fn fmt<W: fmt::Write>(&self, f: &mut fmt::Formatter<W>) -> fmt::Result {
+        f.write_str(match self {
             Wrong::NotUnderstood => "not understood",
             Wrong::NoByte => "no byte of one or two hexadecimal digits",
             Wrong::NoAddress => "no address of one to four hexadecimal digits",
@@ -35,15 +42,7 @@ impl Wrong {
             Wrong::OutOfPlace => "a board line after the first access",
             Wrong::OutsideRam => "a byte outside the RAM",
             Wrong::NoMemory => "no memory",
-        }
-    }
-}
-
-impl fmt::Display for ScriptFault {
-    fn fmt<W: fmt::Write>(&self, f: &mut fmt::Formatter<W>) -> fmt::Result {
-        let line = self.line;
-        let words = self.wrong.words();
-        write!(f, "line {line}: {words}")
+        })
     }
 }
 
@@ -59,14 +58,54 @@ impl<T: Drop> From<AllocFailed<T>> for Wrong {
     }
 }
 
+// What is wrong, and the line that it is wrong on, from 1. No one line is at fault where there is no memory for the
+// whole script, or for the board's RAM.
+#[derive(Clone, Copy, Debug, PartialEq, Eq)]
+pub struct ScriptFault {
+    pub line: Option<usize>,
+    pub wrong: Wrong,
+}
+
+impl fmt::Display for ScriptFault {
+    ghost use Rattle.std.specs.Prelude.{Some};
+    ghost use Rattle.script.specs.Faults.{fault_words};
+
+    ghost output = { λ f. Some (fault_words f) };
+
+    fn fmt<W: fmt::Write>(&self, f: &mut fmt::Formatter<W>) -> fmt::Result {
+        let line = self.line.unwrap_or(0);
+        let wrong = self.wrong;
+        write!(f, "line {line}: {wrong}")
+    }
+}
+
+impl From<AllocError> for ScriptFault {
+    ghost use Rattle.std.specs.Prelude.{◌≡◌};
+    ghost use Rattle.script.specs.Faults.{no_memory};
+
+    ghost from_gives = { λ _ f. f ≡ no_memory };
+
+    fn from(_error: AllocError) -> ScriptFault {
+        ScriptFault {
+            line: None,
+            wrong: Wrong::NoMemory,
+        }
+    }
+}
+
 // Why a script is not played to its end.
-#[derive(Clone, Copy)]
+#[derive(Clone, Copy, Debug, PartialEq, Eq)]
 pub enum PlayFault {
     Script(ScriptFault),
     NoMemory,
 }
 
 impl fmt::Display for PlayFault {
+    ghost use Rattle.std.specs.Prelude.{Some};
+    ghost use Rattle.script.specs.Faults.{play_words};
+
+    ghost output = { λ f. Some (play_words f) };
+
     fn fmt<W: fmt::Write>(&self, f: &mut fmt::Formatter<W>) -> fmt::Result {
         match self {
             PlayFault::Script(fault) => write!(f, "{fault}"),

@@ -33,7 +33,7 @@ pub fn play(heap: Global, text: &[u8]) -> Result<String, PlayFault> {
     let devices = SplitByPort::new(reader, rest, ports.first);
     let mut bench = Bench::new(memory, devices);
     let mut out = String::new(heap);
-    for command in script.commands.as_slice() {
+    for command in &script.commands {
         bench.play(*command, &mut out)?;
     }
     Ok(out)

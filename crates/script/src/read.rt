@@ -9,187 +9,126 @@ use text::numeral::Base;
 // A lent RAM, a chute record and a memory look have at most so many places.
 const MOST: u32 = 65536;
 
+// A line is a command, or else a board line. `chute` begins either: alone it is the look.
 pub(crate) fn read_line(heap: Global, name: &[u8], args: &[&[u8]]) -> Result<Line, Wrong> {
-    match name {
-        b"poke" | b"in" | b"out" | b"memory" | b"latch" | b"waiting" => {
-            Ok(Line::Do(read_command(name, args)?))
+    let command = match name {
+        b"poke" => {
+            let (address, byte) = two(args, read_address, read_byte)?;
+            Command::Access(Access::Poke { address, byte })
         }
-        b"chute" if args.is_empty() => Ok(Line::Do(Command::Look(Look::Chute))),
-        _ => Ok(Line::Board(read_board_line(heap, name, args)?)),
-    }
+        b"in" => {
+            let port = one(args, read_byte)?;
+            Command::Access(Access::In { port })
+        }
+        b"out" => {
+            let (port, byte) = two(args, read_byte, read_byte)?;
+            Command::Access(Access::Out { port, byte })
+        }
+        b"memory" => {
+            let (address, count) = two(args, read_address, read_count)?;
+            Command::Look(Look::Memory { address, count })
+        }
+        b"latch" => {
+            let port = one(args, read_byte)?;
+            Command::Look(Look::Latch { port })
+        }
+        b"waiting" => {
+            none(args)?;
+            Command::Look(Look::Waiting)
+        }
+        b"chute" if args.is_empty() => Command::Look(Look::Chute),
+        _ => return Ok(Line::Board(read_board_line(heap, name, args)?)),
+    };
+    Ok(Line::Do(command))
 }
 
 fn read_board_line(heap: Global, name: &[u8], args: &[&[u8]]) -> Result<BoardLine, Wrong> {
-    match name {
-        b"boot" => boot(heap, args),
-        b"border" => border(args),
-        b"ram" => ram(args),
-        b"at" => at(heap, args),
-        b"lock" => lock(args),
-        b"labels" => labels(heap, args),
-        b"chute" => chute(args),
-        b"rest" => rest(args),
-        b"ports" => ports(args),
+    let line = match name {
+        b"boot" => BoardLine::Boot(boot(heap, args)?),
+        b"border" => BoardLine::Border(one(args, read_address)?),
+        b"ram" => {
+            let (first, length) = two(args, read_address, read_number)?;
+            BoardLine::Ram(Ram { first, length })
+        }
+        b"at" => {
+            let (address, bytes) = one_then_bytes(heap, args, read_address)?;
+            BoardLine::At(Contents { address, bytes })
+        }
+        b"lock" => {
+            let (first, last) = two(args, read_address, read_address)?;
+            BoardLine::Lock(Lock { first, last })
+        }
+        b"labels" => {
+            let (port, bytes) = one_then_bytes(heap, args, read_byte)?;
+            BoardLine::Labels(Labels { port, bytes })
+        }
+        b"chute" => {
+            let (port, depth) = two(args, read_byte, read_number)?;
+            BoardLine::Chute(Chute { port, depth })
+        }
+        b"rest" => {
+            let (port, byte) = two(args, read_byte, read_byte)?;
+            BoardLine::Rest { port, byte }
+        }
+        b"ports" => {
+            let (first, second) = two(args, read_byte, read_byte)?;
+            BoardLine::Ports(Ports { first, second })
+        }
+        _ => return Err(Wrong::NotUnderstood),
+    };
+    Ok(line)
+}
+
+// The words behind a line's name: none, one, two, or one and then bytes. That there are as many is tested before the
+// first of them is read, from the left.
+fn none(args: &[&[u8]]) -> Result<(), Wrong> {
+    match args {
+        [] => Ok(()),
         _ => Err(Wrong::NotUnderstood),
     }
 }
 
-fn read_command(name: &[u8], args: &[&[u8]]) -> Result<Command, Wrong> {
-    match name {
-        b"poke" => poke(args),
-        b"in" => input(args),
-        b"out" => output(args),
-        b"memory" => memory(args),
-        b"latch" => latch(args),
-        b"waiting" => waiting(args),
-        _ => Err(Wrong::NotUnderstood),
-    }
+fn one<A, F: FnOnce(&[u8]) -> Result<A, Wrong>>(args: &[&[u8]], read: F) -> Result<A, Wrong>
+    requires { F.IsAlwaysCallable read }
+{
+    let [word] = args else {
+        return Err(Wrong::NotUnderstood);
+    };
+    read(word)
 }
 
-fn boot(heap: Global, args: &[&[u8]]) -> Result<BoardLine, Wrong> {
+fn two<A: Drop, B, F, G>(args: &[&[u8]], first: F, second: G) -> Result<(A, B), Wrong>
+where
+    F: FnOnce(&[u8]) -> Result<A, Wrong>,
+    G: FnOnce(&[u8]) -> Result<B, Wrong>,
+    requires first { F.IsAlwaysCallable first }
+    requires second { G.IsAlwaysCallable second }
+{
+    let [word, other] = args else {
+        return Err(Wrong::NotUnderstood);
+    };
+    Ok((first(word)?, second(other)?))
+}
+
+fn one_then_bytes<A: Drop, F: FnOnce(&[u8]) -> Result<A, Wrong>>(
+    heap: Global,
+    args: &[&[u8]],
+    read: F,
+) -> Result<(A, Vec<u8>), Wrong>
+    requires { F.IsAlwaysCallable read }
+{
+    let [word, rest @ ..] = args else {
+        return Err(Wrong::NotUnderstood);
+    };
+    Ok((read(word)?, bytes(heap, rest)?))
+}
+
+// A boot table has 256 places.
+fn boot(heap: Global, args: &[&[u8]]) -> Result<Vec<u8>, Wrong> {
     if args.len() > 256 {
         return Err(Wrong::NotUnderstood);
     }
-    Ok(BoardLine::Boot(bytes(heap, args)?))
-}
-
-fn border(args: &[&[u8]]) -> Result<BoardLine, Wrong> {
-    let [address] = args else {
-        return Err(Wrong::NotUnderstood);
-    };
-    Ok(BoardLine::Border(read_address(address)?))
-}
-
-fn ram(args: &[&[u8]]) -> Result<BoardLine, Wrong> {
-    let [first, length] = args else {
-        return Err(Wrong::NotUnderstood);
-    };
-    Ok(BoardLine::Ram(Ram {
-        first: read_address(first)?,
-        length: read_number(length)?,
-    }))
-}
-
-fn at(heap: Global, args: &[&[u8]]) -> Result<BoardLine, Wrong> {
-    if args.is_empty() {
-        return Err(Wrong::NotUnderstood);
-    }
-    let address = read_address(args[0])?;
-    Ok(BoardLine::At(Contents {
-        address,
-        bytes: bytes(heap, &args[1..])?,
-    }))
-}
-
-fn lock(args: &[&[u8]]) -> Result<BoardLine, Wrong> {
-    let [first, last] = args else {
-        return Err(Wrong::NotUnderstood);
-    };
-    Ok(BoardLine::Lock(Lock {
-        first: read_address(first)?,
-        last: read_address(last)?,
-    }))
-}
-
-fn labels(heap: Global, args: &[&[u8]]) -> Result<BoardLine, Wrong> {
-    if args.is_empty() {
-        return Err(Wrong::NotUnderstood);
-    }
-    let port = read_byte(args[0])?;
-    Ok(BoardLine::Labels(Labels {
-        port,
-        bytes: bytes(heap, &args[1..])?,
-    }))
-}
-
-fn chute(args: &[&[u8]]) -> Result<BoardLine, Wrong> {
-    let [port, depth] = args else {
-        return Err(Wrong::NotUnderstood);
-    };
-    Ok(BoardLine::Chute(Chute {
-        port: read_byte(port)?,
-        depth: read_number(depth)?,
-    }))
-}
-
-fn rest(args: &[&[u8]]) -> Result<BoardLine, Wrong> {
-    let [port, byte] = args else {
-        return Err(Wrong::NotUnderstood);
-    };
-    Ok(BoardLine::Rest {
-        port: read_byte(port)?,
-        byte: read_byte(byte)?,
-    })
-}
-
-fn ports(args: &[&[u8]]) -> Result<BoardLine, Wrong> {
-    let [first, second] = args else {
-        return Err(Wrong::NotUnderstood);
-    };
-    Ok(BoardLine::Ports(Ports {
-        first: read_byte(first)?,
-        second: read_byte(second)?,
-    }))
-}
-
-fn poke(args: &[&[u8]]) -> Result<Command, Wrong> {
-    let [address, byte] = args else {
-        return Err(Wrong::NotUnderstood);
-    };
-    let access = Access::Poke {
-        address: read_address(address)?,
-        byte: read_byte(byte)?,
-    };
-    Ok(Command::Access(access))
-}
-
-fn input(args: &[&[u8]]) -> Result<Command, Wrong> {
-    let [port] = args else {
-        return Err(Wrong::NotUnderstood);
-    };
-    Ok(Command::Access(Access::In {
-        port: read_byte(port)?,
-    }))
-}
-
-fn output(args: &[&[u8]]) -> Result<Command, Wrong> {
-    let [port, byte] = args else {
-        return Err(Wrong::NotUnderstood);
-    };
-    let access = Access::Out {
-        port: read_byte(port)?,
-        byte: read_byte(byte)?,
-    };
-    Ok(Command::Access(access))
-}
-
-fn memory(args: &[&[u8]]) -> Result<Command, Wrong> {
-    let [address, count] = args else {
-        return Err(Wrong::NotUnderstood);
-    };
-    let address = read_address(address)?;
-    let count = read_number(count)?;
-    if count == 0 {
-        return Err(Wrong::NoNumber);
-    }
-    Ok(Command::Look(Look::Memory { address, count }))
-}
-
-fn latch(args: &[&[u8]]) -> Result<Command, Wrong> {
-    let [port] = args else {
-        return Err(Wrong::NotUnderstood);
-    };
-    Ok(Command::Look(Look::Latch {
-        port: read_byte(port)?,
-    }))
-}
-
-fn waiting(args: &[&[u8]]) -> Result<Command, Wrong> {
-    if args.is_empty() {
-        Ok(Command::Look(Look::Waiting))
-    } else {
-        Err(Wrong::NotUnderstood)
-    }
+    bytes(heap, args)
 }
 
 // One byte or more.
@@ -197,11 +136,7 @@ fn bytes(heap: Global, words: &[&[u8]]) -> Result<Vec<u8>, Wrong> {
     if words.is_empty() {
         return Err(Wrong::NotUnderstood);
     }
-    let mut bytes = Vec::new(heap);
-    for word in words {
-        bytes.push(read_byte(word)?)?;
-    }
-    Ok(bytes)
+    words.iter().map(|word| read_byte(word)).try_collect(heap)
 }
 
 fn read_byte(word: &[u8]) -> Result<u8, Wrong> {
@@ -215,4 +150,12 @@ fn read_address(word: &[u8]) -> Result<u16, Wrong> {
 // A decimal number of at most 65,536.
 fn read_number(word: &[u8]) -> Result<u32, Wrong> {
     numeral::numeral(Base::Decimal, word, MOST).ok_or(Wrong::NoNumber)
+}
+
+// The same, but not 0.
+fn read_count(word: &[u8]) -> Result<u32, Wrong> {
+    match read_number(word)? {
+        0 => Err(Wrong::NoNumber),
+        count => Ok(count),
+    }
 }

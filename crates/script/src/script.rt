@@ -23,20 +23,11 @@ impl Script {
             commands: Vec::new(heap),
             accessed: false,
         };
-        let Ok(lines) = pieces::lines(heap, text) else {
-            return Err(ScriptFault {
-                line: 0,
-                wrong: Wrong::NoMemory,
-            });
-        };
-        for (i, line) in lines.iter().enumerate() {
-            let number = i.saturating_add(1);
-            if let Err(wrong) = script.take(heap, number, line) {
-                return Err(ScriptFault {
-                    line: number,
-                    wrong,
-                });
-            }
+        for (i, line) in pieces::lines(heap, text)?.into_iter().enumerate() {
+            let number = i + 1;
+            script
+                .take(heap, number, line)
+                .map_err(|wrong| wrong.on_line(number))?;
         }
         Ok(script)
     }
@@ -44,11 +35,10 @@ impl Script {
     // One line more: blank ones are passed over.
     fn take(&mut self, heap: Global, number: usize, line: &[u8]) -> Result<(), Wrong> {
         let words = pieces::words(heap, line)?;
-        let words = words.as_slice();
-        if words.is_empty() {
+        let [name, args @ ..] = words.as_slice() else {
             return Ok(());
-        }
-        match read_line(heap, words[0], &words[1..])? {
+        };
+        match read_line(heap, name, args)? {
             Line::Board(_) if self.accessed => Err(Wrong::OutOfPlace),
             Line::Board(line) => self.setup.take(number, line),
             Line::Do(command) => self.note(command),
@@ -56,9 +46,7 @@ impl Script {
     }
 
     fn note(&mut self, command: Command) -> Result<(), Wrong> {
-        if let Command::Access(_) = command {
-            self.accessed = true;
-        }
+        self.accessed |= matches!(command, Command::Access(_));
         self.commands.push(command)?;
         Ok(())
     }

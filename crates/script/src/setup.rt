@@ -49,10 +49,8 @@ impl Setup {
             BoardLine::Chute(chute) => once(&mut self.chute, chute),
             BoardLine::Ports(ports) => once(&mut self.ports, ports),
             BoardLine::At(contents) => {
-                self.contents.push(Placed {
-                    line: number,
-                    contents,
-                })?;
+                let line = number;
+                self.contents.push(Placed { line, contents })?;
                 Ok(())
             }
             BoardLine::Rest { port, byte } => {
@@ -66,10 +64,8 @@ impl Setup {
     pub(crate) fn boot(&self) -> [u8; 256] {
         let mut table = [0xff; 256];
         if let Some(bytes) = &self.boot {
-            for (i, byte) in bytes.iter().enumerate() {
-                if i < 256 {
-                    table[i] = *byte;
-                }
+            for (place, byte) in table.iter_mut().zip(bytes) {
+                *place = *byte;
             }
         }
         table
@@ -92,17 +88,13 @@ impl Setup {
     }
 
     pub(crate) fn label_port(&self) -> u8 {
-        match &self.labels {
-            Some(labels) => labels.port,
-            None => 0,
-        }
+        self.labels.as_ref().map_or(0, |labels| labels.port)
     }
 
     pub(crate) fn labels(&self) -> &[u8] {
-        match &self.labels {
-            Some(labels) => labels.bytes.as_slice(),
-            None => &[],
-        }
+        self.labels
+            .as_ref()
+            .map_or(&[], |labels| labels.bytes.as_slice())
     }
 
     pub(crate) fn chute(&self) -> Chute {
@@ -123,19 +115,9 @@ impl Setup {
     // The RAM's first bytes: 0, and what the `at` lines give, in their order.
     pub(crate) fn ram_bytes(&self, heap: Global) -> Result<Vec<u8>, ScriptFault> {
         let ram = self.ram();
-        let Ok(mut bytes) = vec![in heap; 0u8; ram.length as usize] else {
-            return Err(ScriptFault {
-                line: 0,
-                wrong: Wrong::NoMemory,
-            });
-        };
-        for placed in &self.contents {
-            if !put(bytes.as_mut_slice(), ram.first, &placed.contents) {
-                return Err(ScriptFault {
-                    line: placed.line,
-                    wrong: Wrong::OutsideRam,
-                });
-            }
+        let mut bytes = vec![in heap; 0u8; ram.length as usize]?;
+        for Placed { line, contents } in &self.contents {
+            put(bytes.as_mut_slice(), ram.first, contents).ok_or(Wrong::OutsideRam.on_line(*line))?;
         }
         Ok(bytes)
     }
@@ -150,24 +132,12 @@ fn once<T: Drop>(slot: &mut Option<T>, value: T) -> Result<(), Wrong> {
     Ok(())
 }
 
-// Puts the bytes into the RAM that begins at an address; false where one of them lies outside it or past FFFFh.
-fn put(ram: &mut [u8], first: u16, contents: &Contents) -> bool {
-    if contents.address < first {
-        return false;
-    }
-    let start = (contents.address - first) as usize;
-    let past = contents.address as usize;
-    for (i, byte) in contents.bytes.iter().enumerate() {
-        let Some(place) = start.checked_add(i) else {
-            return false;
-        };
-        let Some(address) = past.checked_add(i) else {
-            return false;
-        };
-        if place >= ram.len() || address > 0xffff {
-            return false;
-        }
-        ram[place] = *byte;
-    }
-    true
+// Puts the bytes into the RAM that begins at an address; `None` where one of them lies outside it or past FFFFh.
+fn put(ram: &mut [u8], first: u16, contents: &Contents) -> Option<()> {
+    let bytes = contents.bytes.as_slice();
+    let start = contents.address.checked_sub(first)? as usize;
+    let reach = ram.len().min(0x10000 - first as usize);
+    let places = ram[..reach].get_mut(start..start + bytes.len())?;
+    places.copy_from_slice(bytes);
+    Some(())
 }
