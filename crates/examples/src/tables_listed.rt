@@ -1,15 +1,13 @@
 // Tables as they are read and listed.
 use listing::read::{ReadFault, read_table};
 use listing::write::listing;
-use std::alloc::{AllocError, Global};
+use std::alloc::Global;
 use std::test::Fail;
 
-// The listing of a table that is written out; nothing where a word is no byte.
-fn listed(heap: Global, text: &str) -> Result<String, AllocError> {
-    match read_table(heap, text.as_bytes()) {
-        Ok(bytes) => listing(heap, bytes.as_slice()),
-        Err(_) => Ok(String::new(heap)),
-    }
+// The listing of a table that is written out.
+fn listed(heap: Global, text: &str) -> Result<String, Fail> {
+    let bytes = read_table(heap, text.as_bytes()).map_err(|_| Fail::new("the table is not read"))?;
+    Ok(listing(heap, bytes.as_slice())?)
 }
 
 #[test]
@@ -57,12 +55,11 @@ fn followers_due(rt: HostRuntime) -> Result<(), Fail> {
 
 #[test]
 fn words_that_are_no_bytes(rt: HostRuntime) -> Result<(), Fail> {
-    match read_table(rt.alloc(), b"79 50\n\n 10 100 # 3 digits\nXY") {
-        Err(ReadFault::NoByte { line, word }) => {
-            assert_eq!(rt; line, 3);
-            assert_eq!(rt; word, b"100".as_slice());
-            Ok(())
-        }
-        _ => Err(Fail::new("read")),
-    }
+    let read = read_table(rt.alloc(), b"79 50\n\n 10 100 # 3 digits\nXY");
+    let Err(ReadFault::NoByte { line, word }) = read else {
+        return Err(Fail::new("no word is refused"));
+    };
+    assert_eq!(rt; line, 3);
+    assert_eq!(rt; word, b"100".as_slice());
+    Ok(())
 }
