@@ -3,7 +3,8 @@
 #![tactic(auto)]
 
 use script::play::play;
-use std::io::{BufReader, Read};
+use std::fmt::Display;
+use std::io::Read;
 use std::process::ExitCode;
 use std::{env, fs, io};
 
@@ -26,51 +27,47 @@ fn main(rt: HostRuntime) -> ExitCode {
 
 // The scripts that the arguments name, or with none the one on standard input.
 fn play_all(rt: &HostRuntime) -> Result<(), Stopped> {
-    let mut names = 0usize;
-    for name in env::args(rt)?.skip(1) {
+    let mut names = env::args(rt)?.skip(1).peekable();
+    if names.peek().is_none() {
+        return play_input(rt);
+    }
+    for name in names {
         play_file(rt, name.as_str())?;
-        names = names.saturating_add(1);
-    }
-    if names == 0 {
-        play_input(rt)?;
     }
     Ok(())
 }
 
-fn standard_input(rt: &HostRuntime) -> io::Result<Vec<u8>> {
-    let mut text = Vec::new(rt.alloc());
-    BufReader::new(rt.alloc(), rt.stdin())?.read_to_end(&mut text)?;
-    Ok(text)
-}
-
-// One script on standard input.
 fn play_input(rt: &HostRuntime) -> Result<(), Stopped> {
-    let Ok(text) = standard_input(rt) else {
-        eprintln!(rt; "standard input can't be read")?;
-        return Err(Stopped);
-    };
-    match play(rt.alloc(), text.as_slice()) {
-        Ok(out) => print!(rt; "{out}")?,
-        Err(fault) => {
-            eprintln!(rt; "{fault}")?;
-            return Err(Stopped);
-        }
+    let mut text = Vec::new(rt.alloc());
+    if rt.stdin().read_to_end(&mut text).is_err() {
+        return stop(rt, "standard input can't be read");
     }
-    Ok(())
+    play_script(rt, text.as_slice(), "", "")
 }
 
-// One script in a file; nothing is printed where it is not played to its end.
 fn play_file(rt: &HostRuntime, name: &str) -> Result<(), Stopped> {
     let Ok(text) = fs::read(rt, name) else {
-        eprintln!(rt; "{name}: can't be read")?;
-        return Err(Stopped);
+        return stop(rt, format_args!("{name}: can't be read"));
     };
-    match play(rt.alloc(), text.as_slice()) {
-        Ok(out) => print!(rt; "(script {name})\n{out}")?,
-        Err(fault) => {
-            eprintln!(rt; "{name}: {fault}")?;
-            return Err(Stopped);
-        }
+    let heading = format_args!("(script {name})\n");
+    let place = format_args!("{name}: ");
+    play_script(rt, text.as_slice(), heading, place)
+}
+
+// Prints the heading and what the script prints; or only the place and what is wrong, where it is not played to its end.
+fn play_script(
+    rt: &HostRuntime,
+    text: &[u8],
+    heading: impl Display + Drop,
+    place: impl Display + Drop,
+) -> Result<(), Stopped> {
+    match play(rt.alloc(), text) {
+        Ok(out) => Ok(print!(rt; "{heading}{out}")?),
+        Err(fault) => stop(rt, format_args!("{place}{fault}")),
     }
-    Ok(())
+}
+
+fn stop(rt: &HostRuntime, line: impl Display + Drop) -> Result<(), Stopped> {
+    eprintln!(rt; "{line}")?;
+    Err(Stopped)
 }

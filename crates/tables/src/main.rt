@@ -4,25 +4,18 @@
 use anyhow::anyhow;
 use listing::read::{ReadFault, read_table};
 use listing::write::listing;
-use std::io::{BufReader, Read};
+use std::io::Read;
 use std::process::ExitCode;
 use text::shown::Printable;
 
-fn standard_input(rt: &HostRuntime) -> anyhow::Result<Vec<u8>> {
-    let mut text = Vec::new(rt.alloc());
-    BufReader::new(rt.alloc(), rt.stdin())?.read_to_end(&mut text)?;
-    Ok(text)
-}
-
-fn print_listing(rt: &HostRuntime, bytes: &[u8]) -> anyhow::Result<ExitCode> {
-    rt.print(listing(rt.alloc(), bytes)?)?;
-    Ok(ExitCode::SUCCESS)
-}
-
 fn main(rt: HostRuntime) -> anyhow::Result<ExitCode> {
-    let text = standard_input(&rt)?;
+    let mut text = Vec::new(rt.alloc());
+    rt.stdin().read_to_end(&mut text)?;
     match read_table(rt.alloc(), text.as_slice()) {
-        Ok(bytes) => print_listing(&rt, bytes.as_slice()),
+        Ok(bytes) => {
+            rt.print(listing(rt.alloc(), bytes.as_slice())?)?;
+            Ok(ExitCode::SUCCESS)
+        }
         Err(ReadFault::NoByte { line, word }) => {
             let word = Printable(word);
             eprintln!(rt; "line {line}: no byte: {word}")?;
