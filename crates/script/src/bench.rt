@@ -73,12 +73,10 @@ impl<'a> Bench<'a> {
     }
 
     fn look_at_chute(&self, out: &mut String) -> Result<(), AllocError> {
-        let record = &self.devices.high.low;
+        let (older, newer) = self.devices.high.low.as_slices();
         write!(out, "(chute")?;
-        for i in 0..record.len() {
-            if let Some(byte) = record.get(i) {
-                write!(out, " {byte:02X}")?;
-            }
+        for byte in older.iter().chain(newer) {
+            write!(out, " {byte:02X}")?;
         }
         writeln!(out, ")")
     }
