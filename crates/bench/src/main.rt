@@ -54,7 +54,8 @@ fn play_file(rt: &HostRuntime, name: &str) -> Result<(), Stopped> {
     play_script(rt, text.as_slice(), heading, place)
 }
 
-// Prints the heading and what the script prints; or only the place and what is wrong, where it is not played to its end.
+// Prints the heading and what the script prints; where it is not played to its end,
+// only the place and what is wrong.
 fn play_script(
     rt: &HostRuntime,
     text: &[u8],
