@@ -4,9 +4,9 @@
 
 use script::play::play;
 use std::fmt::Display;
-use std::io::Read;
 use std::process::ExitCode;
 use std::{env, fs, io};
+use text::input::read_whole;
 
 // What ends the program with status 1, once its line on standard error is written.
 #[derive(Drop)]
@@ -38,10 +38,9 @@ fn play_all(rt: &HostRuntime) -> Result<(), Stopped> {
 }
 
 fn play_input(rt: &HostRuntime) -> Result<(), Stopped> {
-    let mut text = Vec::new(rt.alloc());
-    if rt.stdin().read_to_end(&mut text).is_err() {
+    let Ok(text) = read_whole(rt.alloc(), rt.stdin()) else {
         return stop(rt, "standard input can't be read");
-    }
+    };
     play_script(rt, text.as_slice(), "", "")
 }
 

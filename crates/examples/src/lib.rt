@@ -9,3 +9,5 @@ mod scripts_played;
 mod tables_decoded;
 #[cfg(test)]
 mod tables_listed;
+#[cfg(test)]
+mod texts_read;

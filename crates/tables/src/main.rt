@@ -4,13 +4,12 @@
 use anyhow::anyhow;
 use listing::read::{ReadFault, read_table};
 use listing::write::listing;
-use std::io::Read;
 use std::process::ExitCode;
+use text::input::read_whole;
 use text::shown::Printable;
 
 fn main(rt: HostRuntime) -> anyhow::Result<ExitCode> {
-    let mut text = Vec::new(rt.alloc());
-    rt.stdin().read_to_end(&mut text)?;
+    let text = read_whole(rt.alloc(), rt.stdin())?;
     match read_table(rt.alloc(), text.as_slice()) {
         Ok(bytes) => {
             rt.print(listing(rt.alloc(), bytes.as_slice())?)?;
