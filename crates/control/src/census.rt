@@ -42,6 +42,7 @@ pub fn census() -> Census
         bad_mode: 0,
         ungrouped: 0,
     };
+    // A loop, and no `fold`: its invariant bounds the counts, so that no `+ 1` overflows.
     for byte in 0..=u8::MAX {
         census = tally(census, byte);
     }

@@ -19,7 +19,7 @@ pub fn entry(byte: u8) -> Entry
     ensures whole { result ≡ entry_of byte }
     ensures order { listed result.followers ≡ followers_of byte }
 {
-    // lent, not copied
+    // Lent: a constant used by value makes its 256 entries anew, which the checker refuses as too many.
     let table = &TABLE;
     table[byte as usize]
 }
