@@ -22,23 +22,14 @@ pub(crate) fn loan_after(mode: Mode, mark: Mark) -> Loan
     }
 }
 
-// What the master does with nothing held and Ready inactive.
-pub(crate) fn pause_kind(mode: Mode) -> Kind
-    ensures { result ≡ pause_kind mode }
+// What the master does with nothing held and Ready inactive, and the loan after that.
+pub(crate) fn pausing(mode: Mode) -> (Kind, Loan)
+    ensures kind { result.0 ≡ pause_kind mode }
+    ensures loan { result.1 ≡ loan_paused mode }
 {
     match mode {
-        Mode::Continuous => Kind::Idle,
-        Mode::Byte | Mode::Burst => Kind::Release,
-    }
-}
-
-// The loan after that.
-pub(crate) fn loan_paused(mode: Mode) -> Loan
-    ensures { result ≡ loan_paused mode }
-{
-    match mode {
-        Mode::Continuous => Loan::Master,
-        Mode::Byte | Mode::Burst => Loan::Released,
+        Mode::Continuous => (Kind::Idle, Loan::Master),
+        Mode::Byte | Mode::Burst => (Kind::Release, Loan::Released),
     }
 }
 

@@ -5,7 +5,7 @@ ghost use Rattle.registers.specs.Bytes.{step};
 ghost use Rattle.registers.specs.Chips.{with_loan};
 ghost use Rattle.registers.specs.Cycles.{is_active, pause, pause_kind, loan_paused, worked, cycled};
 
-use crate::bus::{loan_after, loan_paused, pause, pause_kind};
+use crate::bus::{loan_after, pause, pausing};
 use crate::bytes::{read_byte, write_byte};
 use crate::latching::latch;
 use crate::step::Step;
@@ -71,8 +71,9 @@ fn rest(registers: &mut Registers) -> Answer
     ensures answer { result ≡ pause (pause_kind registers.old.manner.mode) }
     ensures registers { registers.new ≡ with_loan (loan_paused registers.old.manner.mode) registers.old }
 {
-    registers.loan = loan_paused(registers.manner.mode);
-    pause(pause_kind(registers.manner.mode))
+    let (kind, loan) = pausing(registers.manner.mode);
+    registers.loan = loan;
+    pause(kind)
 }
 
 // The master writes its held byte, at any Ready level; else, Ready active, it reads the source; else it pauses.
@@ -84,7 +85,8 @@ pub fn cycle<M: Memory, D: DeviceSpace>(
 ) -> Answer
     requires { registers.old.progress.count ≤ 65535 }
     ensures cycled { cycled_of result registers.new (contents_of M.cells D.ports spaces.new) ≡ cycled forced input registers.old (contents_of M.cells D.ports spaces.old) }
-    ensures frames { frames_of M.frame D.frame spaces.new ≡ frames_of M.frame D.frame spaces.old }
+    ensures memory { M.frame spaces.new.memory ≡ M.frame spaces.old.memory }
+    ensures devices { D.frame spaces.new.devices ≡ D.frame spaces.old.devices }
 {
     match registers.progress.held {
         Some(_) => work(input.waits, registers, spaces),

@@ -1,12 +1,21 @@
 // What the bit fields of a control byte say, each by itself.
-// Plain functions for the fields: a `From<u8>` would not say which bits of the byte it reads.
-ghost use Rattle.std.specs.Prelude.{◌≡◌};
-ghost use Rattle.control.specs.Firsts.{class_of, source_of, space_of, rule_of, ready_of, command_said, wr6_of};
+// Plain functions for the fields: a `From<u8>` would not say which bits of the byte it reads. Class and rule stand each
+// by itself: one function for both would take the bits and all that they say as arguments.
+ghost use Rattle.std.specs.Prelude.{◌≡◌, if◌then◌else◌};
+ghost use Rattle.control.specs.Bits.{on};
+ghost use Rattle.control.specs.Firsts.{class_of, rule_of, command_said, wr6_of};
 ghost use Rattle.control.specs.Followers.{timing_of, interrupt_control_of};
 
 use crate::fault::DecodeFault;
-use crate::fields::{AddressRule, Class, InterruptControl, Level, PortName, Space, Timing};
+use crate::fields::{AddressRule, Class, InterruptControl, Timing};
 use crate::first::{Command, First};
+
+// Of two values, the one that stands for a bit that is 1, or the one for 0.
+pub(crate) fn by_bit<T: Copy>(byte: u8, bit: u8, one: T, zero: T) -> T
+    ensures { result ≡ (if on byte bit then one else zero) }
+{
+    if byte & bit != 0 { one } else { zero }
+}
 
 pub(crate) fn class(byte: u8) -> Class
     ensures { result ≡ class_of byte }
@@ -18,26 +27,6 @@ pub(crate) fn class(byte: u8) -> Class
     }
 }
 
-pub(crate) fn source(byte: u8) -> PortName
-    ensures { result ≡ source_of byte }
-{
-    if byte & 0x04 != 0 {
-        PortName::A
-    } else {
-        PortName::B
-    }
-}
-
-pub(crate) fn space(byte: u8) -> Space
-    ensures { result ≡ space_of byte }
-{
-    if byte & 0x08 != 0 {
-        Space::Io
-    } else {
-        Space::Memory
-    }
-}
-
 pub(crate) fn rule(byte: u8) -> AddressRule
     ensures { result ≡ rule_of byte }
 {
@@ -45,16 +34,6 @@ pub(crate) fn rule(byte: u8) -> AddressRule
         0x00 => AddressRule::Decrement,
         0x10 => AddressRule::Increment,
         _ => AddressRule::Fixed,
-    }
-}
-
-pub(crate) fn ready(byte: u8) -> Level
-    ensures { result ≡ ready_of byte }
-{
-    if byte & 0x08 != 0 {
-        Level::High
-    } else {
-        Level::Low
     }
 }
 

@@ -9,7 +9,7 @@ ghost use Rattle.control.specs.Tables.{entry_of, due_after, decoded, at_place, t
 use crate::bits::*;
 use crate::decoded::{ControlByte, Decoded};
 use crate::fault::{DecodeFault, TableFault};
-use crate::fields::{InterruptControl, Mode, Timing};
+use crate::fields::{InterruptControl, Level, Mode, PortName, Space, Timing};
 use crate::first::First;
 use crate::follower::{Follower, FollowerByte, Followers};
 use crate::table::{Entry, TABLE};
@@ -41,14 +41,14 @@ fn by_bit_fields(byte: u8) -> Result<First, DecodeFault>
     match byte {
         b if b & 0x80 == 0 && b & 0x03 != 0 => Ok(First::Wr0 {
             class: class(b),
-            source: source(b),
+            source: by_bit(b, 0x04, PortName::A, PortName::B),
         }),
         b if b & 0x87 == 0x04 => Ok(First::Wr1 {
-            space: space(b),
+            space: by_bit(b, 0x08, Space::Io, Space::Memory),
             rule: rule(b),
         }),
         b if b & 0x87 == 0x00 => Ok(First::Wr2 {
-            space: space(b),
+            space: by_bit(b, 0x08, Space::Io, Space::Memory),
             rule: rule(b),
         }),
         b if b & 0x83 == 0x80 => Ok(First::Wr3 {
@@ -63,7 +63,7 @@ fn by_bit_fields(byte: u8) -> Result<First, DecodeFault>
         b if b & 0x83 == 0x81 && b & 0x60 == 0x40 => Ok(First::Wr4 { mode: Mode::Burst }),
         b if b & 0x83 == 0x81 => Err(DecodeFault::BadMode),
         b if b & 0xC7 == 0x82 => Ok(First::Wr5 {
-            ready: ready(b),
+            ready: by_bit(b, 0x08, Level::High, Level::Low),
             heed_waits: b & 0x10 != 0,
             auto_restart: b & 0x20 != 0,
         }),

@@ -1,4 +1,5 @@
-// The words that a report prints.
+// The words that a report prints. A function for each enum, since the words are all that stands in it; and a Display for
+// each, since no blanket impl may be of a trait of std's, nor a macro of ours write an impl.
 ghost use Rattle.std.specs.Prelude.{◌≡◌, Some};
 ghost use Rattle.control.specs.Words.{class_word, port_word, space_word, rule_word, mode_word, level_word, group_word, command_word, follower_word};
 

@@ -13,6 +13,7 @@ pub struct Progress {
     // the byte to compare, in the next read
     pub compare: Option<u8>,
     // a match stops the channel once the held byte is written
+    // (a flag, and no part of `held`: by a rule of the project the held byte is an Option<u8> of its own)
     pub stopping: bool,
     pub enabled: bool,
 }

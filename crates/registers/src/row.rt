@@ -22,7 +22,7 @@ pub struct Service {
 pub struct Sequence {
     // the followers still due
     pub due: Followers,
-    // the group's last byte enables the channel
+    // the group's last byte enables the channel (a flag beside them: followers are due with it and without it)
     pub enabling: bool,
 }
 
