@@ -1,4 +1,3 @@
 pub mod Whole
 pub mod Exactly
 pub mod Counting
-pub mod Entries

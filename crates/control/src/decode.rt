@@ -4,7 +4,7 @@ ghost use Rattle.std.specs.Prelude.{◌≡◌};
 ghost use Rattle.control.specs.Firsts.{group_of, followers_of, decoded_first, group_said};
 ghost use Rattle.control.specs.Followers.{decoded_follower, interrupt_followers, ahead, listed};
 ghost use Rattle.control.specs.Laws.{Exact};
-ghost use Rattle.control.specs.Tables.{entry_of, due_after, decoded, at_place, table_decoded};
+ghost use Rattle.control.specs.Tables.{entry_of, ruled, due_after, decoded, at_place, table_decoded};
 
 use crate::bits::*;
 use crate::decoded::{ControlByte, Decoded};
@@ -14,14 +14,19 @@ use crate::first::First;
 use crate::follower::{Follower, FollowerByte, Followers};
 use crate::table::{Entry, TABLE};
 
+// The table, whose rule holds over the whole of it. It is lent: a constant used by value makes its 256 entries anew.
+fn whole_table() -> &'static [Entry; 256]
+    ensures { result.now ≡ ruled entry_of 0 256 }
+{
+    &TABLE
+}
+
 // The group of a first byte and the followers it announces, as the table has them.
 pub fn entry(byte: u8) -> Entry
     ensures whole { result ≡ entry_of byte }
     ensures order { listed result.followers ≡ followers_of byte }
 {
-    // Lent: a constant used by value makes its 256 entries anew, which the checker refuses as too many.
-    let table = &TABLE;
-    table[byte as usize]
+    whole_table()[byte as usize]
 }
 
 // What a first byte says: exactly the meaning whose bits it has.
