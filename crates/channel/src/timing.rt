@@ -1,4 +1,4 @@
-// T-cycles and waits.
+// T-cycles and waits. A timing and a space go side by side: no struct for two plain values of three short functions.
 ghost use Rattle.std.specs.Prelude.{◌≡◌};
 ghost use Rattle.registers.specs.Times.{base_time, takes_waits, time_of, timing_of};
 

@@ -24,7 +24,7 @@ impl fmt::Display for Class {
     ghost output = { λ x. Some (class_word x) };
 
     fn fmt<W: fmt::Write>(&self, f: &mut fmt::Formatter<W>) -> fmt::Result {
-        f.write_str(self.word())
+        f.write_str(Class::word(*self))
     }
 }
 
@@ -43,7 +43,7 @@ impl fmt::Display for PortName {
     ghost output = { λ x. Some (port_word x) };
 
     fn fmt<W: fmt::Write>(&self, f: &mut fmt::Formatter<W>) -> fmt::Result {
-        f.write_str(self.word())
+        f.write_str(PortName::word(*self))
     }
 }
 
@@ -62,7 +62,7 @@ impl fmt::Display for Space {
     ghost output = { λ x. Some (space_word x) };
 
     fn fmt<W: fmt::Write>(&self, f: &mut fmt::Formatter<W>) -> fmt::Result {
-        f.write_str(self.word())
+        f.write_str(Space::word(*self))
     }
 }
 
@@ -82,7 +82,7 @@ impl fmt::Display for AddressRule {
     ghost output = { λ x. Some (rule_word x) };
 
     fn fmt<W: fmt::Write>(&self, f: &mut fmt::Formatter<W>) -> fmt::Result {
-        f.write_str(self.word())
+        f.write_str(AddressRule::word(*self))
     }
 }
 
@@ -102,7 +102,7 @@ impl fmt::Display for Mode {
     ghost output = { λ x. Some (mode_word x) };
 
     fn fmt<W: fmt::Write>(&self, f: &mut fmt::Formatter<W>) -> fmt::Result {
-        f.write_str(self.word())
+        f.write_str(Mode::word(*self))
     }
 }
 
@@ -121,7 +121,7 @@ impl fmt::Display for Level {
     ghost output = { λ x. Some (level_word x) };
 
     fn fmt<W: fmt::Write>(&self, f: &mut fmt::Formatter<W>) -> fmt::Result {
-        f.write_str(self.word())
+        f.write_str(Level::word(*self))
     }
 }
 
@@ -145,7 +145,7 @@ impl fmt::Display for Group {
     ghost output = { λ x. Some (group_word x) };
 
     fn fmt<W: fmt::Write>(&self, f: &mut fmt::Formatter<W>) -> fmt::Result {
-        f.write_str(self.word())
+        f.write_str(Group::word(*self))
     }
 }
 
@@ -177,7 +177,7 @@ impl fmt::Display for Command {
     ghost output = { λ x. Some (command_word x) };
 
     fn fmt<W: fmt::Write>(&self, f: &mut fmt::Formatter<W>) -> fmt::Result {
-        f.write_str(self.word())
+        f.write_str(Command::word(*self))
     }
 }
 
@@ -208,6 +208,6 @@ impl fmt::Display for Follower {
     ghost output = { λ x. Some (follower_word x) };
 
     fn fmt<W: fmt::Write>(&self, f: &mut fmt::Formatter<W>) -> fmt::Result {
-        f.write_str(self.word())
+        f.write_str(Follower::word(*self))
     }
 }

@@ -9,6 +9,7 @@ ghost use Rattle.std.specs.List.{slice_get};
 
 #[derive(Drop)]
 pub struct Ring<'a, T> {
+    // the same slice through every call, as each call says: no invariant can, since it is a fact of two states
     slots: &'a mut [T],
     // where the next element goes; at the slice's end it goes to the start
     next: usize,

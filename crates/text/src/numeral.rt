@@ -9,6 +9,7 @@ pub enum Base {
 }
 
 impl Base {
+    // Named, and no `From`: `u8::from(base)` would not say that it is the number of digits.
     pub fn radix(self) -> u8
         ensures { result ≡ radix_of self }
     {

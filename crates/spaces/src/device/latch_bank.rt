@@ -8,6 +8,7 @@ use crate::device::DeviceSpace;
 
 #[derive(Drop)]
 pub struct LatchBank {
+    // two arrays: the one is given whole, the other begins empty
     rests: [u8; 256],
     held: [Option<u8>; 256],
 }

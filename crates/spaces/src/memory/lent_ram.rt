@@ -8,6 +8,7 @@ use crate::memory::Memory;
 #[derive(Drop)]
 pub struct LentRam<'a> {
     first: u16,
+    // the same slice through every call, as each call says: no invariant can, since it is a fact of two states
     bytes: &'a mut [u8],
 }
 
