@@ -33,7 +33,7 @@ pub(crate) fn pausing(mode: Mode) -> (Kind, Loan)
     }
 }
 
-// What idling and letting go answer.
+// What idling and letting go answer: 0 where nothing is read or written.
 pub(crate) fn pause(kind: Kind) -> Answer
     ensures { result ≡ pause kind }
 {

@@ -5,6 +5,7 @@ ghost use Rattle.registers.specs.Chips.{no_causes, with_causes, with_latches, wi
 ghost use Rattle.registers.specs.Firsts.{status_cleared, command_did};
 
 use crate::enabling::{accept, enable_by, may_enable};
+use crate::interrupts::no_causes;
 use crate::loading::{continue_count, load};
 use crate::power_on::chip_at_power_on;
 use crate::read_out::start_read_out;
@@ -12,7 +13,7 @@ use control::first::Command;
 use control::follower::Followers;
 use registers::chip::Chip;
 use registers::fault::ChannelFault;
-use registers::latches::{Causes, Latches};
+use registers::latches::Latches;
 use registers::row::{Registers, Service};
 
 // Interrupts off, causes and service cleared.
@@ -23,10 +24,7 @@ fn reset_interrupts(registers: &mut Registers)
         interrupts: false,
         serving: false,
     };
-    registers.latches.causes = Causes {
-        matched: false,
-        ended: false,
-    };
+    registers.latches.causes = no_causes();
 }
 
 fn clear_status(latches: &mut Latches)

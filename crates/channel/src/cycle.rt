@@ -21,7 +21,8 @@ use registers::row::Registers;
 use spaces::device::DeviceSpace;
 use spaces::memory::Memory;
 
-// Whether Ready is active at this level of it.
+// Whether Ready is active at this level of it. The latch that forces it is the channel's and the level the line's, so
+// the two stay apart.
 pub fn is_active(manner: &Manner, forced: bool, level: Level) -> bool
     ensures { result ≡ is_active manner.now forced level }
 {
@@ -88,6 +89,7 @@ pub fn cycle<M: Memory, D: DeviceSpace>(
     ensures memory { M.frame spaces.new.memory ≡ M.frame spaces.old.memory }
     ensures devices { D.frame spaces.new.devices ≡ D.frame spaces.old.devices }
 {
+    // the held byte is taken apart, by a rule of the project
     match registers.progress.held {
         Some(_) => work(input.waits, registers, spaces),
         None if is_active(&registers.manner, forced, input.ready) => {

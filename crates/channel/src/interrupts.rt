@@ -1,8 +1,9 @@
 // Requests, vectors and service.
 ghost use Rattle.std.specs.Prelude.{◌≡◌, false};
-ghost use Rattle.registers.specs.Chips.{with_service};
+ghost use Rattle.registers.specs.Chips.{no_causes, with_service};
 ghost use Rattle.registers.specs.Interrupts.{requested, cause_bits, vector_of, served};
 
+use crate::read_out::bit;
 use control::fields::Level;
 use registers::latches::Causes;
 use registers::row::Registers;
@@ -17,16 +18,21 @@ pub fn requested(iei: Level, registers: &Registers) -> bool
     caused && service.interrupts && !service.serving && iei == Level::High
 }
 
+// Neither cause.
+pub(crate) fn no_causes() -> Causes
+    ensures { result ≡ no_causes }
+{
+    Causes {
+        matched: false,
+        ended: false,
+    }
+}
+
 // D2 D1 of a vector with the status in it.
 fn cause_bits(causes: Causes) -> u8
     ensures { result ≡ cause_bits causes }
 {
-    match (causes.matched, causes.ended) {
-        (false, false) => 0,
-        (true, false) => 2,
-        (false, true) => 4,
-        (true, true) => 6,
-    }
+    bit(causes.matched, 2) + bit(causes.ended, 4)
 }
 
 // The vector that an acknowledge answers.
@@ -45,10 +51,7 @@ pub fn vector(registers: &Registers) -> u8
 pub fn serve(registers: &mut Registers)
     ensures { registers.new ≡ served registers.old }
 {
-    registers.latches.causes = Causes {
-        matched: false,
-        ended: false,
-    };
+    registers.latches.causes = no_causes();
     registers.service.serving = true;
 }
 

@@ -1,5 +1,5 @@
 // What each step of the channel does, on the registers and on the two spaces: parts of calls, each equal to its definition.
-// No part asks whether a loan is open, and none decides the order of a call's refusals. `control` has what a control
+// No part asks whether a loan is open, or decides which call's refusal comes before another's. `control` has what a control
 // byte says, `registers` the structs and every rule, `spaces` the memory and the devices.
 #![tactic(auto)]
 

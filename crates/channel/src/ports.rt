@@ -1,5 +1,5 @@
 // Source and destination of a block, and how a port's counter moves.
-ghost use Rattle.std.specs.Prelude.{◌≡◌};
+ghost use Rattle.std.specs.Prelude.{◌≡◌, ◌%◌};
 ghost use Rattle.registers.specs.Ports.{of_port, other, address_of, moved};
 
 use control::fields::{AddressRule, PortName, Space};
@@ -24,13 +24,21 @@ pub(crate) fn other(name: PortName) -> PortName
     }
 }
 
+// The port that the counter names: its low 8 bits.
+pub(crate) fn port_of(counter: u16) -> u8
+    ensures { result ≡ counter % 256 }
+{
+    let [low, _] = counter.to_le_bytes();
+    low
+}
+
 // The address of a cycle.
 pub(crate) fn address_of(space: Space, counter: u16) -> u16
     ensures { result ≡ address_of space counter }
 {
     match space {
         Space::Memory => counter,
-        Space::Io => counter % 256,
+        Space::Io => u16::from(port_of(counter)),
     }
 }
 

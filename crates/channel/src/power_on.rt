@@ -2,10 +2,11 @@
 ghost use Rattle.std.specs.Prelude.{◌≡◌};
 ghost use Rattle.registers.specs.Chips.{power_on, program_at_power_on, port_at_power_on};
 
+use crate::interrupts::no_causes;
 use control::fields::{AddressRule, Class, InterruptControl, Level, Mode, PortName, Space};
 use control::follower::Followers;
 use registers::chip::Chip;
-use registers::latches::{Causes, Latches};
+use registers::latches::Latches;
 use registers::manner::Manner;
 use registers::program::{Port, Program, Search, Signals};
 use registers::progress::Progress;
@@ -89,10 +90,7 @@ fn latches_at_power_on() -> Latches
         moved: false,
         matched: false,
         ended: false,
-        causes: Causes {
-            matched: false,
-            ended: false,
-        },
+        causes: no_causes(),
     }
 }
 

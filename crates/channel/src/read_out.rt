@@ -10,8 +10,8 @@ use registers::progress::Progress;
 use registers::read_out::ReadOut;
 use registers::row::Registers;
 
-// A bit of the status byte.
-fn bit(set: bool, value: u8) -> u8
+// A bit of the status byte or of a vector.
+pub(crate) fn bit(set: bool, value: u8) -> u8
     ensures { result ≡ bit set value }
 {
     if set { value } else { 0 }

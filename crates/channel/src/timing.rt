@@ -23,13 +23,10 @@ pub(crate) fn base_time(timing: Option<Timing>, space: Space) -> u8
 pub(crate) fn takes_waits(timing: Option<Timing>, space: Space) -> bool
     ensures { result ≡ takes_waits timing space }
 {
-    match (timing, space) {
-        (None, _) => true,
-        (Some(Timing::Two), _) => false,
-        (Some(Timing::Three), Space::Memory) => true,
-        (Some(Timing::Three), Space::Io) => false,
-        (Some(Timing::Four), _) => true,
-    }
+    !matches!(
+        (timing, space),
+        (Some(Timing::Two), _) | (Some(Timing::Three), Space::Io)
+    )
 }
 
 // The T-cycles of a read or a write, where waits are heeded or not.

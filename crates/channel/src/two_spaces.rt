@@ -1,13 +1,15 @@
 // The two spaces of a board, and a byte between the channel and one of them.
-ghost use Rattle.std.specs.Prelude.{◌≡◌, ◌%◌};
+ghost use Rattle.std.specs.Prelude.{◌≡◌};
 ghost use Rattle.channel.specs.Values.{contents_of, frames_of};
 ghost use Rattle.registers.specs.Contents.{byte_at, after_read, after_write};
 ghost use Rattle.registers.specs.Ports.{address_of};
 
+use crate::ports::port_of;
 use control::fields::Space;
 use spaces::device::DeviceSpace;
 use spaces::memory::Memory;
 
+// That a call leaves the frames as they were is a fact of two states, which each call says and no invariant can.
 #[derive(Drop)]
 pub struct TwoSpaces<M, D> {
     pub memory: M,
@@ -37,12 +39,4 @@ impl<M: Memory, D: DeviceSpace> TwoSpaces<M, D> {
             Space::Io => self.devices.write(port_of(counter), byte),
         }
     }
-}
-
-// The port that the counter names: its low 8 bits.
-fn port_of(counter: u16) -> u8
-    ensures { result ≡ counter % 256 }
-{
-    let [low, _] = counter.to_le_bytes();
-    low
 }

@@ -1,6 +1,7 @@
 // What the bit fields of a control byte say, each by itself.
-// Plain functions for the fields: a `From<u8>` would not say which bits of the byte it reads. Class and rule stand each
-// by itself: one function for both would take the bits and all that they say as arguments.
+// Plain functions for the fields of a first byte, which share it: a `From<u8>` would not say which bits it reads. What has
+// a byte of its own has a `TryFrom`. Class and rule stand each by itself: one function for both would take the bits and
+// all that they say as arguments.
 ghost use Rattle.std.specs.Prelude.{◌≡◌, if◌then◌else◌};
 ghost use Rattle.control.specs.Bits.{on};
 ghost use Rattle.control.specs.Firsts.{class_of, rule_of, command_said, wr6_of};
@@ -42,7 +43,7 @@ pub(crate) fn rule(byte: u8) -> AddressRule
 pub(crate) fn wr6(byte: u8) -> Result<First, DecodeFault>
     ensures { result ≡ wr6_of byte }
 {
-    Ok(First::Wr6(Command::try_from(byte)?))
+    Command::try_from(byte).map(First::Wr6)
 }
 
 // From the command's code.

@@ -26,6 +26,7 @@ pub fn entry(byte: u8) -> Entry
     ensures whole { result ≡ entry_of byte }
     ensures order { listed result.followers ≡ followers_of byte }
 {
+    // `as`: by `usize::from` the place would be one more unknown of the proof
     whole_table()[byte as usize]
 }
 
@@ -103,16 +104,8 @@ pub fn decode_follower(follower: Follower, byte: u8) -> Result<FollowerByte, Dec
 fn after_interrupt_control(byte: u8, rest: Followers) -> Followers
     ensures { result ≡ ahead (interrupt_followers byte) rest }
 {
-    let with_vector = if byte & 0x10 != 0 {
-        rest.in_front(Follower::Vector)
-    } else {
-        rest
-    };
-    if byte & 0x08 != 0 {
-        with_vector.in_front(Follower::Pulse)
-    } else {
-        with_vector
-    }
+    let rest = by_bit(byte, 0x10, rest.in_front(Follower::Vector), rest);
+    by_bit(byte, 0x08, rest.in_front(Follower::Pulse), rest)
 }
 
 // The followers due after this one, which came with this byte.

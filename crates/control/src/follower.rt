@@ -40,10 +40,10 @@ impl Followers {
     {
         match self {
             Followers::Zero => None,
-            Followers::One(a) => Some(a),
-            Followers::Two(a, _) => Some(a),
-            Followers::Three(a, _, _) => Some(a),
-            Followers::Four(a, _, _, _) => Some(a),
+            Followers::One(a)
+            | Followers::Two(a, _)
+            | Followers::Three(a, _, _)
+            | Followers::Four(a, _, _, _) => Some(a),
         }
     }
 
@@ -52,8 +52,7 @@ impl Followers {
         ensures { result ≡ rest_of self }
     {
         match self {
-            Followers::Zero => Followers::Zero,
-            Followers::One(_) => Followers::Zero,
+            Followers::Zero | Followers::One(_) => Followers::Zero,
             Followers::Two(_, b) => Followers::One(b),
             Followers::Three(_, b, c) => Followers::Two(b, c),
             Followers::Four(_, b, c, d) => Followers::Three(b, c, d),

@@ -12,10 +12,10 @@ impl DecodeFault {
     {
         match self {
             DecodeFault::NoGroup => 2,
-            DecodeFault::BadMode => 3,
-            DecodeFault::BadTiming => 3,
-            DecodeFault::BadInterruptControl => 3,
-            DecodeFault::BadReadMask => 3,
+            DecodeFault::BadMode
+            | DecodeFault::BadTiming
+            | DecodeFault::BadInterruptControl
+            | DecodeFault::BadReadMask => 3,
         }
     }
 }

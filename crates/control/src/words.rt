@@ -1,5 +1,5 @@
-// The words that a report prints. A function for each enum, since the words are all that stands in it; and a Display for
-// each, since no blanket impl may be of a trait of std's, nor a macro of ours write an impl.
+// The words that a report prints. Taking a word can't fail, as displaying it can, so each enum has both. The functions
+// have nothing in common but their form: each is a list of words. Nor can one impl of std's Display be for all the enums.
 ghost use Rattle.std.specs.Prelude.{◌≡◌, Some};
 ghost use Rattle.control.specs.Words.{class_word, port_word, space_word, rule_word, mode_word, level_word, group_word, command_word, follower_word};
 

@@ -20,7 +20,7 @@ impl fmt::Display for Refused {
     }
 }
 
-// What a byte says where this was due.
+// What a byte says; `was` was due where it stands.
 #[derive(Clone, Copy)]
 struct ByteWords {
     was: Option<Follower>,

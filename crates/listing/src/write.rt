@@ -21,10 +21,10 @@ fn byte_lines(heap: Global, bytes: &[u8]) -> Result<String, AllocError>
             answer,
         };
         write!(lines, "{line}")?;
-        match answer {
-            Ok(taken) => due = taken.due,
-            Err(_) => return Ok(lines),
-        }
+        let Ok(taken) = answer else {
+            return Ok(lines);
+        };
+        due = taken.due;
     }
     Ok(lines)
 }

@@ -45,6 +45,7 @@ pub struct Move {
     pub pulse: bool,
 }
 
+// Flat, with no `Move` in it: the laws and whoever reads a log speak of each part by itself.
 #[derive(Clone, Copy, Debug, PartialEq, Eq)]
 pub struct Answer {
     pub kind: Kind,

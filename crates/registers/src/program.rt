@@ -30,6 +30,7 @@ pub struct Signals {
 pub struct Program {
     pub class: Class,
     pub source: PortName,
+    // two fields here and in what else each port has, and no pair: the rules name what is a port's by itself
     pub a: Port,
     pub b: Port,
     // N: a block has one byte more

@@ -13,7 +13,7 @@ pub struct Ring<'a, T> {
     slots: &'a mut [T],
     // where the next element goes; at the slice's end it goes to the start
     next: usize,
-    // whether every slot holds a pushed element: a flag, as an enum would carry `next` in each of its two cases
+    // whether it has turned, so that every slot holds a pushed element: a flag, as an enum would carry `next` in each case
     wrapped: bool,
 }
 

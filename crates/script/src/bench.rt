@@ -75,9 +75,8 @@ impl<'a> Bench<'a> {
     fn look_at_chute(&self, out: &mut String) -> Result<(), AllocError> {
         let (older, newer) = self.devices.high.low.as_slices();
         write!(out, "(chute")?;
-        for byte in older.iter().chain(newer) {
-            write!(out, " {byte:02X}")?;
-        }
+        write_bytes(older, out)?;
+        write_bytes(newer, out)?;
         writeln!(out, ")")
     }
 
@@ -90,9 +89,15 @@ impl<'a> Bench<'a> {
 
     fn look_at_labels(&self, out: &mut String) -> Result<(), AllocError> {
         write!(out, "(waiting")?;
-        for byte in self.devices.low.waiting() {
-            write!(out, " {byte:02X}")?;
-        }
+        write_bytes(self.devices.low.waiting(), out)?;
         writeln!(out, ")")
     }
+}
+
+// The bytes of a slice, a space in front of each. A memory has no slice of its bytes to be written so.
+fn write_bytes(bytes: &[u8], out: &mut String) -> Result<(), AllocError> {
+    for byte in bytes {
+        write!(out, " {byte:02X}")?;
+    }
+    Ok(())
 }

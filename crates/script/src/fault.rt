@@ -73,6 +73,7 @@ impl fmt::Display for ScriptFault {
     ghost output = { λ f. Some (fault_words f) };
 
     fn fmt<W: fmt::Write>(&self, f: &mut fmt::Formatter<W>) -> fmt::Result {
+        // a fault on no one line is printed as of line 0
         let line = self.line.unwrap_or(0);
         let wrong = self.wrong;
         write!(f, "line {line}: {wrong}")
@@ -109,7 +110,7 @@ impl fmt::Display for PlayFault {
     fn fmt<W: fmt::Write>(&self, f: &mut fmt::Formatter<W>) -> fmt::Result {
         match self {
             PlayFault::Script(fault) => write!(f, "{fault}"),
-            PlayFault::NoMemory => write!(f, "no memory"),
+            PlayFault::NoMemory => write!(f, "{}", Wrong::NoMemory),
         }
     }
 }
@@ -126,7 +127,7 @@ impl From<AllocError> for PlayFault {
     }
 }
 
-// for a line that a caller formats: what fails there on the way to a String is want of memory alone
+// for callers that format a line, of which this repository has none: what fails on the way to a String is want of memory
 impl From<fmt::Error> for PlayFault {
     fn from(_error: fmt::Error) -> PlayFault {
         PlayFault::NoMemory

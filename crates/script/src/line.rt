@@ -1,4 +1,5 @@
-// The lines of a script: board lines, and what is done with the board.
+// The lines of a script: board lines, and what is done with the board. Each has a struct of its own: where two have the
+// same types, their names say what differs.
 use crate::command::Command;
 
 #[derive(Clone, Copy)]

@@ -26,7 +26,8 @@ pub fn play(heap: Global, text: &[u8]) -> Result<String, PlayFault> {
     let low = BootTable::new(script.setup.boot());
     let high = LentRam::new(script.setup.ram().first, ram.as_mut_slice());
     let memory = Lock::new(Split::new(low, high, border), lock.first, lock.last);
-    let reader = LabelReader::new(script.setup.label_port(), script.setup.labels());
+    let (label_port, labels) = script.setup.labels();
+    let reader = LabelReader::new(label_port, labels);
     let record = ChuteRecord::new(chute.port, chute_bytes.as_mut_slice());
     let bank = LatchBank::new(script.setup.rests());
     let rest = SplitByPort::new(record, bank, ports.second);

@@ -37,7 +37,7 @@ pub(crate) fn read_line(heap: Global, name: &[u8], args: &[&[u8]]) -> Result<Lin
             Command::Look(Look::Waiting)
         }
         b"chute" if args.is_empty() => Command::Look(Look::Chute),
-        _ => return Ok(Line::Board(read_board_line(heap, name, args)?)),
+        _ => return read_board_line(heap, name, args).map(Line::Board),
     };
     Ok(Line::Do(command))
 }
@@ -79,8 +79,8 @@ fn read_board_line(heap: Global, name: &[u8], args: &[&[u8]]) -> Result<BoardLin
     Ok(line)
 }
 
-// The words behind a line's name: none, one, two, or one and then bytes. That there are as many is tested before the
-// first of them is read, from the left.
+// The words behind a line's name: none, one, two, or one and then bytes. They are read from the left, and none of them
+// before it is known that there are as many; only for bytes it is then seen whether there is one.
 fn none(args: &[&[u8]]) -> Result<(), Wrong> {
     match args {
         [] => Ok(()),

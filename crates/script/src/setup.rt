@@ -54,7 +54,7 @@ impl Setup {
                 Ok(())
             }
             BoardLine::Rest { port, byte } => {
-                self.rests[port as usize] = byte;
+                self.rests[usize::from(port)] = byte;
                 Ok(())
             }
         }
@@ -87,16 +87,15 @@ impl Setup {
         self.lock.unwrap_or(Lock { first: 1, last: 0 })
     }
 
-    pub(crate) fn label_port(&self) -> u8 {
-        self.labels.as_ref().map_or(0, |labels| labels.port)
+    // The label reader's port, and what waits there; with no such line, nothing at port 0.
+    pub(crate) fn labels(&self) -> (u8, &[u8]) {
+        match &self.labels {
+            Some(labels) => (labels.port, labels.bytes.as_slice()),
+            None => (0, &[]),
+        }
     }
 
-    pub(crate) fn labels(&self) -> &[u8] {
-        self.labels
-            .as_ref()
-            .map_or(&[], |labels| labels.bytes.as_slice())
-    }
-
+    // With no such line, nothing is kept at port 1.
     pub(crate) fn chute(&self) -> Chute {
         self.chute.unwrap_or(Chute { port: 1, depth: 0 })
     }
@@ -135,8 +134,8 @@ fn once<T: Drop>(slot: &mut Option<T>, value: T) -> Result<(), Wrong> {
 // Puts the bytes into the RAM that begins at an address; `None` where one of them lies outside it or past FFFFh.
 fn put(ram: &mut [u8], first: u16, contents: &Contents) -> Option<()> {
     let bytes = contents.bytes.as_slice();
-    let start = contents.address.checked_sub(first)? as usize;
-    let reach = ram.len().min(0x10000 - first as usize);
+    let start = usize::from(contents.address.checked_sub(first)?);
+    let reach = ram.len().min(0x10000 - usize::from(first));
     let places = ram[..reach].get_mut(start..start + bytes.len())?;
     places.copy_from_slice(bytes);
     Some(())

@@ -23,20 +23,20 @@ impl Base {
     pub fn digit(self, character: u8) -> Option<u8>
         ensures { result ≡ digit_of self character }
     {
-        let value = (character as char).to_digit(self.radix() as u32)?;
+        let value = char::from(character).to_digit(u32::from(self.radix()))?;
         Some(value as u8)
     }
 }
 
-// The value of a word's digits, where all of it are digits and the value is at most `most`.
+// The value of a word, where each of its characters is a digit and the value is at most `most`.
 fn value(base: Base, word: &[u8], most: u32) -> Option<u32>
     ensures { result ≡ at_most most (value_after base 0 word.now) }
 {
     let mut value = 0u64;
     for character in word {
         let digit = base.digit(*character)?;
-        value = value * base.radix() as u64 + digit as u64;
-        if value > most as u64 {
+        value = value * u64::from(base.radix()) + u64::from(digit);
+        if value > u64::from(most) {
             return None;
         }
     }

@@ -25,6 +25,7 @@ pub fn words<'a>(heap: Global, line: &'a [u8]) -> Result<Vec<&'a [u8]>, AllocErr
 fn uncommented(line: &[u8]) -> &[u8]
     ensures { result.now ≡ uncommented_of line.now }
 {
+    // a `match`: by `map_or`, or by the first part of a `split`, the goal stayed open
     match line.iter().position(|byte| *byte == b'#') {
         Some(comment) => &line[..comment],
         None => line,

@@ -28,7 +28,7 @@ impl fmt::Display for PrintableByte {
     fn fmt<W: fmt::Write>(&self, f: &mut fmt::Formatter<W>) -> fmt::Result {
         let byte = self.0;
         match byte {
-            b' '..=b'~' => f.write_char(byte as char),
+            b' '..=b'~' => f.write_char(char::from(byte)),
             _ => write!(f, "\\x{byte:02X}"),
         }
     }

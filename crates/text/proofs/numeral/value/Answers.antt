@@ -1,6 +1,5 @@
 use Rattle.std.proofs.Common.{◌≡◌, ℕ, ◌+◌, ◌*◌, ◌<◌, List, [], ◌∷◌, Some, None, Option, refl, arith, rules}
-use Rattle.std.proofs.lemmas.List.{drop_all, drop_more}
-use Rattle.std.proofs.lemmas.Bool.Decides.{nat_tests}
+use Rattle.std.proofs.lemmas.List.{drop_more}
 use Rattle.text.specs.declared.numeral.Base.{Base}
 use Rattle.text.specs.declared.numeral.Base.TheVariants.{Decimal, Hexadecimal}
 use Rattle.text.specs.Numerals.{radix_of, digit_of, value_after, at_most}
@@ -18,22 +17,7 @@ over b m v (c ∷ cs) h = go (digit_of b c) (λ d. over b m (v * radix_of b + d)
   go None f = refl
   go (Some d) f = f d
 
-pub returns-in_err-digit : goal.returns-in_err-digit
-returns-in_err-digit c =
-    let left = rw (drop_more c.args.word.now c.loop-character.character-index 0 c.loop-character-test.true) at c.loop-character.invariant.1 in
-    grind arith
-
-pub returns-then-value-most : goal.returns-then-value-most
-returns-then-value-most c =
+pub returns-then-value-from : goal.returns-then-value-from
+returns-then-value-from c =
     let left = rw (drop_more c.args.word.now c.loop-character.character-index 0 c.loop-character-test.true) at c.loop-character.invariant.1 in
     grind (arith, over)
-
-pub loop-character-preserved : goal.loop-character-preserved
-loop-character-preserved c =
-    let left = rw (drop_more c.args.word.now c.loop-character.character-index 0 c.loop-character-test.true) at c.loop-character.invariant.1 in
-    (c.if-value-most.false, grind arith)
-
-pub returns : goal.returns
-returns c =
-    let left = rw (drop_all c.loop-character.character-index c.args.word.now c.loop-character-test.false) at c.loop-character.invariant.1 in
-    grind (arith, nat_tests)
