@@ -6,4 +6,5 @@
 pub mod alike;
 pub mod device;
 pub mod memory;
+mod on_loan;
 pub mod split;
