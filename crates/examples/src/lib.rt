@@ -2,6 +2,7 @@
 // crate with tests is proved twice. It uses every library below the programs.
 #![tactic(auto)]
 
+mod borrowing;
 mod lending;
 #[cfg(test)]
 mod scripts_played;
