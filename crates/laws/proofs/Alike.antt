@@ -1,11 +1,9 @@
 -- Equal progress and equal contents step alike. Assumes nothing.
-use Rattle.std.proofs.Common.{◌≡◌, ℕ, ◌<◌, Bool, true, false, ◌&&◌, Some, None, Option, refl, ap, subst, arith}
+use Rattle.std.proofs.Common.{◌≡◌, ℕ, ◌<◌, Bool, false, ◌&&◌, Some, None, Option, refl, ap, subst, arith}
 use Rattle.control.specs.declared.fields.AddressRule.{AddressRule}
-use Rattle.control.specs.declared.fields.AddressRule.TheVariants.{Decrement, Increment, Fixed}
 use Rattle.control.specs.declared.fields.Class.{Class}
 use Rattle.control.specs.declared.fields.Class.TheVariants.{Transfer, Search, Both}
 use Rattle.control.specs.declared.fields.PortName.{PortName}
-use Rattle.control.specs.declared.fields.PortName.TheVariants as name
 use Rattle.registers.specs.declared.answer.Kind.TheVariants.{Read}
 use Rattle.registers.specs.declared.answer.Mark.TheVariants.{Unfinished}
 use Rattle.registers.specs.declared.latches.Latches.{Latches}
@@ -20,18 +18,13 @@ use Rattle.laws.proofs.Spaces.{Within, address_within, byte_same, read_same, wri
 -- COUNTERS STAY IN RANGE
 
 moved_in_range : (u : AddressRule) (n : ℕ) → n < 65536 → moved u n < 65536
-moved_in_range Decrement n h = omega arith
-moved_in_range Increment n h = omega arith
-moved_in_range Fixed n h = h
+moved_in_range u n h = grind arith
 
 loaded_in_range : (u : AddressRule) (start old : ℕ) → start < 65536 → old < 65536 → loaded_destination u start old < 65536
-loaded_in_range Decrement start old h k = h
-loaded_in_range Increment start old h k = h
-loaded_in_range Fixed start old h k = k
+loaded_in_range u start old h k = grind arith
 
 port_in_range : (s : PortName) (x y : ℕ) → x < 65536 → y < 65536 → of_port s x y < 65536
-port_in_range name.A x y h k = h
-port_in_range name.B x y h k = k
+port_in_range s x y h k = grind arith
 
 -- the same starts, and counters in range
 ranged : (p : Program) (k k' : Progress) → InRange p k → k'.a < 65536 → k'.b < 65536 → InRange p k'
@@ -44,12 +37,7 @@ loaded_ranged p k h =
 
 closed_ranged : (ended stopped restart : Bool) (p : Program) (k : Progress) → InRange p k → InRange p (closed ended stopped restart p k)
 unfolding closed
-closed_ranged false false restart p k h = h
-closed_ranged false true restart p k h = ranged p k _ h h.a h.b
-closed_ranged true false true p k h = loaded_ranged p k h
-closed_ranged true true true p k h = let l = loaded_ranged p k h in ranged p k _ h l.a l.b
-closed_ranged true false false p k h = ranged p k _ h h.a h.b
-closed_ranged true true false p k h = ranged p k _ h h.a h.b
+closed_ranged ended stopped restart p k h = let l = loaded_ranged p k h in grind arith
 
 finished_ranged : (p : Program) (k : Progress) → InRange p k → InRange p (finished p k)
 finished_ranged p k h = closed_ranged (is_last p k) k.stopping p.restart p (counted k) (ranged p k (counted k) h h.a h.b)

@@ -61,8 +61,7 @@ trail_line {p = p} (go {b = b} {m = m} {ms = ms} h t) = rw (step_moves p b (move
 trail_line (relatch f l t) = trail_line t
 
 then_same : (t : Bool) (m n : Move) (ms ns : List Move) → m ≡ n → (t ≡ false → ms ≡ ns) → then_unless t m ms ≡ then_unless t n ns
-then_same true m n ms ns e f = ap (λ x. x ∷ []) e
-then_same false m n ms ns e f = let q = f refl in cc
+then_same t m n ms ns e f = grind arith
 
 line_block : (p : Program) (k l : Progress) (c d : Contents) (ms ns : List Move) → InRange p k → k ≡ l → SameContents c d → Line p k c ms → Line p l d ns → 0 < finals ms → 0 < finals ns → block ms ≡ block ns
 line_block p k l c d [] ns h q s x y f g = absurd (omega arith)

@@ -1,5 +1,5 @@
 -- Every call that accepts no control byte is a walk, and so is a list of them. Assumes nothing.
-use Rattle.std.proofs.Common.{◌≡◌, ℕ, ◌+◌, ◌<◌, Bool, true, false, T, ◌⊎◌, List, [], ◌∷◌, ◌++◌, length, Ok, Err, Result, refl, ap, ◌∙◌, inl, inr, arith}
+use Rattle.std.proofs.Common.{◌≡◌, ℕ, ◌+◌, ◌<◌, Bool, true, false, IsTrue, ◌⊎◌, List, [], ◌∷◌, ◌++◌, length, Ok, Err, Result, refl, ap, ◌∙◌, inl, inr, arith}
 use Rattle.control.specs.declared.fault.TableFault.{TableFault}
 use Rattle.control.specs.declared.fields.Level.{Level}
 use Rattle.registers.specs.declared.chip.Chip.{Chip}
@@ -107,45 +107,37 @@ same_walk F x s e h = rw e (stay h)
 
 status_walk : (F : Type 0) → F → (n : Loan) (l : Level) (s : State) → KeptIn s → Walk F s [] (at_chip (status_did n l s.chip).chip s)
 unfolding status_did
-status_walk F f Master l s h = stay h
-status_walk F f Released l s h = stay h
 status_walk F f Closed l s h = served_walk F f s.chip.registers.latches s.chip.registers.service _ s h
+status_walk F f _ l s h = stay h
 
 acknowledge_walk : (F : Type 0) → F → (n : Loan) (q : Bool) (s : State) → KeptIn s → Walk F s [] (at_chip (acknowledge_did n q s.chip).chip s)
 unfolding acknowledge_did
-acknowledge_walk F f Master q s h = stay h
-acknowledge_walk F f Released q s h = stay h
-acknowledge_walk F f Closed false s h = stay h
 acknowledge_walk F f Closed true s h = served_walk F f _ _ s.chip.readout s h
+acknowledge_walk F f _ _ s h = stay h
 
 reti_walk : (F : Type 0) → F → (n : Loan) (s : State) → KeptIn s → Walk F s [] (at_chip (reti_did n s.chip).chip s)
 unfolding reti_did
-reti_walk F f Master s h = stay h
-reti_walk F f Released s h = stay h
 reti_walk F f Closed s h = served_walk F f s.chip.registers.latches _ s.chip.readout s h
+reti_walk F f _ s h = stay h
 
 open_walk : (F : Type 0) (n : Loan) (e a : Bool) (s : State) → s.chip.registers.progress.enabled ≡ e → KeptIn s → Walk F s [] (at_chip (open_did n e a s.chip).chip s)
 unfolding open_did
-open_walk F Master e a s q h = stay h
-open_walk F Released e a s q h = stay h
-open_walk F Closed false a s q h = stay h
-open_walk F Closed true false s q h = stay h
 open_walk F Closed true true s q h = loan_walk F Master s q h
+open_walk F _ _ _ s q h = stay h
 
 return_walk : (F : Type 0) (n : Loan) (s : State) → Holds n s.chip.registers.progress → KeptIn s → Walk F s [] (at_chip (return_did n s.chip).chip s)
 unfolding return_did
-return_walk F Closed s q h = stay h
-return_walk F Master s q h = stay h
 return_walk F Released s q h = loan_walk F Closed s q h
+return_walk F _ s q h = stay h
 
 -- EVERY CALL
 
 -- only F lets a call change the latches, the service and the read-out
-permitted : {F : Type 0} {b : Bool} → b ≡ false → T b ⊎ F → F
-permitted e (inl t) = absurd (rw e at t)
+permitted : {F : Type 0} {b : Bool} → b ≡ false → IsTrue b ⊎ F → F
+permitted e (inl t) = cc
 permitted e (inr f) = f
 
-pub call_walk : (F : Type 0) (c : Call) (s : State) → KeptIn s → T (is_bus_call c) ⊎ F → TakesNone c s → Walk F s (moments_in c s) (does c s).state
+pub call_walk : (F : Type 0) (c : Call) (s : State) → KeptIn s → IsTrue (is_bus_call c) ⊎ F → TakesNone c s → Walk F s (moments_in c s) (does c s).state
 unfolding does moments_in status_read opened returned acknowledged returned_from
 call_walk F (write_call b) s h a z = write_walk F (wrote b s.chip) s h z
 call_walk F (table_call bs) s h a z = same_walk F _ s (none bs s.chip z) h
@@ -164,17 +156,13 @@ uncontrolled_walk (c ∷ cs) s h u =
     let w = call_walk Unit c s h (inr tt) u.0 in
     walk_then w (uncontrolled_walk cs (does c s).state w.kept u.1)
 
-bus_takes_none : (c : Call) (s : State) → T (is_bus_call c) → TakesNone c s
+bus_takes_none : (c : Call) (s : State) → IsTrue (is_bus_call c) → TakesNone c s
 unfolding does
-bus_takes_none (write_call b) s t = absurd t
-bus_takes_none (table_call bs) s t = absurd t
-bus_takes_none (status_call l) s t = absurd t
 bus_takes_none (open_call l) s t = refl
 bus_takes_none (cycle_call i) s t = refl
 bus_takes_none (run_call is) s t = refl
 bus_takes_none return_call s t = refl
-bus_takes_none (acknowledge_call l) s t = absurd t
-bus_takes_none reti_call s t = absurd t
+bus_takes_none _ s t = cc
 
 pub bus_walk : (cs : List Call) (s : State) → KeptIn s → BusOnly cs → Walk ⊥ s (moments cs s) (state_at_end cs s)
 unfolding moments state_at_end
@@ -192,8 +180,7 @@ events_in_then (m ∷ ms) ns = ap (λ es. m.event ∷ es) (events_in_then ms ns)
 cycle_has : (n : Loan) (i : CycleInput) (s : State) → events_in (moment_on n i s) ≡ event_on n i s
 unfolding moment_on event_on
 cycle_has Master i s = refl
-cycle_has Released i s = refl
-cycle_has Closed i s = refl
+cycle_has _ i s = refl
 
 run_has : (is : List CycleInput) (s : State) → events_in (moments_of is s) ≡ events_of is s
 unfolding moments_of events_of
@@ -203,19 +190,14 @@ run_has (i ∷ is) s = events_in_then (moment_of i s) (moments_of is (state_afte
 write_has : (v : Result Chip ChannelFault) (s : State) → [] ≡ (write_outcome v s).events
 unfolding write_outcome
 write_has (Ok y) s = refl
-write_has (Err f) s = refl
+write_has _ s = refl
 
 call_has : (c : Call) (s : State) → events_in (moments_in c s) ≡ (does c s).events
 unfolding does moments_in
 call_has (write_call b) s = write_has (wrote b s.chip) s
-call_has (table_call bs) s = refl
-call_has (status_call l) s = refl
-call_has (open_call l) s = refl
 call_has (cycle_call i) s = cycle_has s.chip.registers.loan i s
 call_has (run_call is) s = run_has is s
-call_has return_call s = refl
-call_has (acknowledge_call l) s = refl
-call_has reti_call s = refl
+call_has _ s = refl
 
 pub moments_have_the_events : MomentsHaveTheEvents
 unfolding events moments

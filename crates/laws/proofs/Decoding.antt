@@ -15,18 +15,14 @@ use Rattle.control.specs.declared.first.Group.TheVariants as group
 use Rattle.control.specs.declared.follower.Follower.{Follower}
 use Rattle.control.specs.declared.follower.Follower.TheVariants.{Mask, Match, ReadMask}
 use Rattle.control.specs.declared.follower.Followers.{Followers}
-use Rattle.control.specs.declared.follower.Followers.TheVariants.{Zero, One, Two, Three, Four}
+use Rattle.control.specs.declared.follower.Followers.TheVariants.{Zero}
 use Rattle.registers.specs.Kept.{OnlySearch}
 
 -- WR3 has only its own followers; the command that enables is 87h and has none
 abbrev pub Fitting : ℕ → First → Followers → Type 0
-Fitting b (first.Wr0 c s) due = Unit {0}
-Fitting b (first.Wr1 s u) due = Unit {0}
-Fitting b (first.Wr2 s u) due = Unit {0}
 Fitting b (first.Wr3 stop interrupts enable) due = OnlySearch (listed due)
-Fitting b (first.Wr4 o) due = Unit {0}
-Fitting b (first.Wr5 l heed restart) due = Unit {0}
 Fitting b (first.Wr6 c) due = c ≡ command.Enable → (b ≡ 0x87) × OnlySearch (listed due)
+Fitting b _ due = Unit {0}
 
 abbrev pub FittingResult : ℕ → Result First DecodeFault → Followers → Type 0
 FittingResult b (Ok f) due = Fitting b f due
@@ -45,11 +41,10 @@ wr4_fits b None due = tt
 -- a command has its own code
 module _ (b : ℕ) (c : Command) where
   coded_one : (d : Command) (rest : Option Command) (t : Bool) → eqb b (command_code d) ≡ t → (rest ≡ Some c → b ≡ command_code c) → cond t (Some d) rest ≡ Some c → b ≡ command_code c
-  coded_one d rest true q h z = let e : d ≡ c = cc in eqb-true b (command_code d) q ∙ ap command_code e
-  coded_one d rest false q h z = h z
+  coded_one d rest t q h z = grind (arith, eqb-true)
 
   coded_code : (cs : List Command) → coded b cs ≡ Some c → b ≡ command_code c
-  coded_code [] z = let never : ◌≡◌ {A = ℕ} 0 1 = cc in absurd (omega arith)
+  coded_code [] z = cc
   coded_code (d ∷ cs) z = coded_one d (coded b cs) (eqb b (command_code d)) refl (coded_code cs) z
 
 enable_fits : (b : ℕ) → b ≡ 0x87 → OnlySearch (listed (queued (cond (eqb b 0xBB) (ReadMask ∷ []) [])))
@@ -75,11 +70,8 @@ first_fits b = by_groups (in_wr0 b) (in_wr1 b) (in_wr2 b) (in_wr3 b) (in_wr4 b) 
     by_groups false false false false false false = commands_fit b (command_of b) refl
 
 some_in_front : (f : Follower) (due : Followers) → in_front f due ≡ Zero → ⊥
-some_in_front f Zero z = let never : ◌≡◌ {A = ℕ} 0 1 = cc in omega arith
-some_in_front f (One a) z = let never : ◌≡◌ {A = ℕ} 0 1 = cc in omega arith
-some_in_front f (Two a b) z = let never : ◌≡◌ {A = ℕ} 0 1 = cc in omega arith
-some_in_front f (Three a b c) z = let never : ◌≡◌ {A = ℕ} 0 1 = cc in omega arith
-some_in_front f (Four a b c d) z = let never : ◌≡◌ {A = ℕ} 0 1 = cc in omega arith
+some_in_front f Zero z = cc
+some_in_front f _ z = cc
 
 pub none_queued : (fs : List Follower) → queued fs ≡ Zero → fs ≡ []
 none_queued [] z = refl

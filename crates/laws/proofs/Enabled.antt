@@ -1,6 +1,5 @@
 -- Each enabling leaves an enabled channel, with length, count and counters as it found them. Assumes nothing.
-use Rattle.std.proofs.Common.{◌≡◌, ℕ, Bool, true, false, eqb, ltb, ◌⊎◌, List, [], ◌∷◌, Ok, Err, Result, sym, refl, ap, ◌∙◌, subst, inl, inr, arith}
-use Rattle.std.proofs.lemmas.Bool.{false≢true}
+use Rattle.std.proofs.Common.{◌≡◌, ℕ, Bool, true, false, eqb, ltb, ◌⊎◌, List, [], ◌∷◌, Ok, Err, Result, sym, refl, ap, ◌∙◌, subst, inl, inr}
 use Rattle.control.specs.Firsts.{wr6_of, decoded_first, followers_of}
 use Rattle.control.specs.Followers.{listed, queued}
 use Rattle.control.specs.Tables.{decoded, first_taken}
@@ -19,9 +18,9 @@ use Rattle.control.specs.declared.follower.Followers.TheVariants.{Zero, One}
 use Rattle.registers.specs.declared.chip.Chip.{Chip}
 use Rattle.registers.specs.declared.fault.ChannelFault.{ChannelFault}
 use Rattle.registers.specs.declared.row.Loan.{Loan}
-use Rattle.registers.specs.declared.row.Loan.TheVariants.{Closed, Master, Released}
+use Rattle.registers.specs.declared.row.Loan.TheVariants.{Closed}
 use Rattle.registers.specs.declared.row.Registers.{Registers}
-use Rattle.registers.specs.Calls.{State, write_call, table_call, status_call, open_call, cycle_call, run_call, return_call, acknowledge_call, reti_call}
+use Rattle.registers.specs.Calls.{State, write_call, table_call}
 use Rattle.registers.specs.Firsts.{enabled_by, enables, enabling, with_wr3}
 use Rattle.registers.specs.Kept.{Kept, OnlySearch}
 use Rattle.registers.specs.Writes.{follower_set, sequenced, follower_did, decoded_did, write_did, wrote}
@@ -41,10 +40,8 @@ EnabledIf x (Err f) = Unit {0}
 -- enabled at once, from registers r with the same block
 module _ (x : Chip) (r : Registers) (l : r.program.length ≡ x.registers.program.length) (k : r.progress ≡ x.registers.progress) where
   enables_enabled : (none above : Bool) → EnabledIf x (enables none above Zero r x)
-  enables_enabled true above = tt
-  enables_enabled false true = tt
-  enables_enabled false false =
-      record { on = refl; block = record { length = l; count = ap (λ k. k.count) k; a = ap (λ k. k.a) k; b = ap (λ k. k.b) k } }
+  enables_enabled false false = record { on = refl; block = record { length = l; count = cc; a = cc; b = cc } }
+  enables_enabled _ _ = tt
 
   enabling_enabled : EnabledIf x (enabling Zero r x)
   enabling_enabled = enables_enabled (eqb r.program.length 0) (ltb r.program.length r.progress.count)
@@ -70,21 +67,15 @@ wr3_enabled x stop interrupts = enabling_enabled x (with_wr3 stop interrupts x.r
 
 sequenced_on : (e : Bool) (r : Registers) → e ≡ true → sequenced e Zero r ≡ enabled_by Zero r
 sequenced_on true r q = refl
-sequenced_on false r q = absurd (false≢true q)
+sequenced_on false r q = cc
 
 module _ (x : Chip) (e : x.registers.sequence.enabling ≡ true) where
   follower_enabled : (f : FollowerByte) → (follower_set f x.registers).program.length ≡ x.registers.program.length → (follower_set f x.registers).progress ≡ x.registers.progress → Enabled x (follower_did f Zero x)
   follower_enabled f l k =
       let q = sequenced_on x.registers.sequence.enabling (follower_set f x.registers) e in
       record {
-        on = ap (λ r. r.progress.enabled) q;
-        block =
-            record {
-              length = ap (λ r. r.program.length) q ∙ l;
-              count = ap (λ r. r.progress.count) q ∙ ap (λ k. k.count) k;
-              a = ap (λ r. r.progress.a) q ∙ ap (λ k. k.a) k;
-              b = ap (λ r. r.progress.b) q ∙ ap (λ k. k.b) k;
-            };
+        on = cc;
+        block = record { length = cc; count = cc; a = cc; b = cc };
       }
 
   last_enabled : (b : ℕ) (f : Follower) → (f ≡ due.Mask) ⊎ (f ≡ due.Match) → EnabledIf x (decoded_did (decoded (One f) b) x)
@@ -106,8 +97,7 @@ decoded_enabled b x k (enable_bit_before f d e) =
 write_closed : (l : Loan) (b : ℕ) (x : Chip) → l ≡ Closed → write_did l b x ≡ decoded_did (decoded x.registers.sequence.due b) x
 unfolding write_did
 write_closed Closed b x n = refl
-write_closed Master b x n = let never : ◌≡◌ {A = ℕ} 0 1 = cc in absurd (omega arith)
-write_closed Released b x n = let never : ◌≡◌ {A = ℕ} 0 1 = cc in absurd (omega arith)
+write_closed _ b x n = cc
 
 byte_enabled : (b : ℕ) (x y : Chip) → Kept x.registers → EnabledBy b x y → Enabled x y
 unfolding wrote
@@ -128,10 +118,4 @@ byte_found b x t k e =
 pub enablings_leave_found : EnablingsLeaveFound
 enablings_leave_found s (write_call b) x k e = byte_found b x _ (rw e.0 k) e.1
 enablings_leave_found s (table_call bs) x k e = byte_found e.byte x _ (accepted_kept e.front s.chip x k e.before) e.enabling
-enablings_leave_found s (status_call l) x k e = absurd e
-enablings_leave_found s (open_call l) x k e = absurd e
-enablings_leave_found s (cycle_call i) x k e = absurd e
-enablings_leave_found s (run_call is) x k e = absurd e
-enablings_leave_found s return_call x k e = absurd e
-enablings_leave_found s (acknowledge_call l) x k e = absurd e
-enablings_leave_found s reti_call x k e = absurd e
+enablings_leave_found s _ x k e = absurd e

@@ -3,7 +3,7 @@ use Rattle.std.proofs.Common.{◌≡◌, ℕ, ◌+◌, true, ◌⊎◌, List, []
 use Rattle.registers.specs.declared.chip.Chip.{Chip}
 use Rattle.registers.specs.declared.fault.ChannelFault.{ChannelFault}
 use Rattle.registers.specs.declared.outcome.Outcome.TheVariants.{WroteTable}
-use Rattle.registers.specs.Calls.{State, write_call, table_call, status_call, open_call, cycle_call, run_call, return_call, acknowledge_call, reti_call, write_outcome, does}
+use Rattle.registers.specs.Calls.{State, write_call, table_call, write_outcome, does}
 use Rattle.registers.specs.Kept.{Kept}
 use Rattle.registers.specs.Writes.{wrote, table_next, table_did}
 use Rattle.laws.specs.Enabling.{EnabledBy, Accepted, RefusedNext, EnabledByTable, bytes_accepted, OnlyEnablingsEnable}
@@ -77,10 +77,4 @@ pub only_enablings_enable : OnlyEnablingsEnable
 unfolding does
 only_enablings_enable s (write_call b) k n on = (s.chip, (refl, write_enables b (wrote b s.chip) s refl k n on))
 only_enablings_enable s (table_call bs) k n on = table_enables bs s.chip _ k (λ r. n (refused_none bs s.chip r.1)) on (table_took 0 bs s.chip)
-only_enablings_enable s (status_call l) k n on = absurd (n refl)
-only_enablings_enable s (open_call l) k n on = absurd (n refl)
-only_enablings_enable s (cycle_call i) k n on = absurd (n refl)
-only_enablings_enable s (run_call is) k n on = absurd (n refl)
-only_enablings_enable s return_call k n on = absurd (n refl)
-only_enablings_enable s (acknowledge_call l) k n on = absurd (n refl)
-only_enablings_enable s reti_call k n on = absurd (n refl)
+only_enablings_enable s _ k n on = absurd (n refl)

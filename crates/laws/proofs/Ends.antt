@@ -1,8 +1,7 @@
 -- Nothing follows an end without auto restart, nor a stop. Assumes nothing.
-use Rattle.std.proofs.Common.{◌≡◌, ℕ, Bool, true, false, List, [], ◌∷◌, ◌++◌, sym, refl, ap, ◌∙◌, inl, inr, arith}
-use Rattle.std.proofs.lemmas.Bool.{false≢true, true≢false}
+use Rattle.std.proofs.Common.{◌≡◌, Bool, true, false, List, [], ◌∷◌, ◌++◌, sym, refl, ap, ◌∙◌, arith}
+use Rattle.std.proofs.lemmas.Bool.{false≢true}
 use Rattle.registers.specs.declared.answer.Mark.{Mark}
-use Rattle.registers.specs.declared.answer.Mark.TheVariants as mark
 use Rattle.registers.specs.declared.answer.Move.{Move}
 use Rattle.registers.specs.declared.manner.Manner.{Manner}
 use Rattle.registers.specs.declared.program.Program.{Program}
@@ -22,8 +21,7 @@ abbrev Disables : Bool → Mark → Type 0
 Disables restart m = (final m ≡ true) × (stops m ≡ false → restart ≡ false)
 
 pause_never : (restart : Bool) (m : Move) → Pauses m → Disables restart m.mark → ⊥
-pause_never restart m (inl e) d = false≢true (ap (λ x. final x.mark) (sym e) ∙ d.0)
-pause_never restart m (inr e) d = false≢true (ap (λ x. final x.mark) (sym e) ∙ d.0)
+pause_never restart m h d = grind arith
 
 module _ {F : Type 0} {f : Bool} {n : Manner} {p : Program} where
   -- no cycle is accepted of a disabled channel
@@ -34,8 +32,8 @@ module _ {F : Type 0} {f : Bool} {n : Manner} {p : Program} where
   trail_off z (relatch x l t) = trail_off z t
 
   trail_ends : {b b' : Course} {ms : List Moment} (front back : List Event) (e : Event) → Trail F f n p b ms b' → events_in ms ≡ front ++ (e ∷ back) → Disables p.restart e.answer.mark → back ≡ []
-  trail_ends [] back e here q d = let never : ◌≡◌ {A = ℕ} 0 1 = cc in absurd (omega arith)
-  trail_ends (x ∷ front) back e here q d = let never : ◌≡◌ {A = ℕ} 0 1 = cc in absurd (omega arith)
+  trail_ends [] back e here q d = cc
+  trail_ends (x ∷ front) back e here q d = cc
   trail_ends [] back e (pause {m = m} h t) q d = let same : m.event ≡ e = cc in absurd (pause_never p.restart (move_of m.event) h.is (rw same d))
   trail_ends (x ∷ front) back e (pause {ms = ms} h t) q d = let rest : events_in ms ≡ front ++ (e ∷ back) = cc in trail_ends front back e t rest d
   trail_ends [] back e (go {b = b} {m = m} {ms = ms} h t) q d =
@@ -48,18 +46,10 @@ module _ {F : Type 0} {f : Bool} {n : Manner} {p : Program} where
   trail_ends front back e (relatch x l t) q d = trail_ends front back e t q d
 
 ends_disable : (restart : Bool) (m : Mark) → restart ≡ false → ends_block m ≡ true → Disables restart m
-ends_disable restart mark.Unfinished r z = absurd (false≢true z)
-ends_disable restart mark.Finished r z = absurd (false≢true z)
-ends_disable restart mark.Ended r z = (refl, λ _. r)
-ends_disable restart mark.Stopped r z = absurd (false≢true z)
-ends_disable restart mark.Both r z = (refl, λ _. r)
+ends_disable restart m r z = grind arith
 
 stops_disable : (restart : Bool) (m : Mark) → stops m ≡ true → Disables restart m
-stops_disable restart mark.Unfinished z = absurd (false≢true z)
-stops_disable restart mark.Finished z = absurd (false≢true z)
-stops_disable restart mark.Ended z = absurd (false≢true z)
-stops_disable restart mark.Stopped z = (refl, λ q. absurd (true≢false q))
-stops_disable restart mark.Both z = (refl, λ q. absurd (true≢false q))
+stops_disable restart m z = grind arith
 
 nothing_follows : (s : State) (calls : List Call) → KeptIn s → Uncontrolled calls s → (front back : List Event) (e : Event) → events calls s ≡ front ++ (e ∷ back) → Disables s.chip.registers.program.restart e.answer.mark → back ≡ []
 nothing_follows s cs k u front back e q d = trail_ends front back e (uncontrolled_walk cs s k u).trail (moments_have_the_events s cs ∙ q) d

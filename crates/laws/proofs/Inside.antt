@@ -4,7 +4,6 @@ use Rattle.std.proofs.lemmas.Bool.{eqb-true, eqb-false, eq-eqb, false≢true, tr
 use Rattle.control.specs.declared.fields.Class.{Class}
 use Rattle.control.specs.declared.fields.Class.TheVariants.{Transfer, Search, Both}
 use Rattle.control.specs.declared.fields.PortName.{PortName}
-use Rattle.control.specs.declared.fields.PortName.TheVariants.{A, B}
 use Rattle.registers.specs.declared.answer.Kind.{Kind}
 use Rattle.registers.specs.declared.answer.Kind.TheVariants.{Read, Write}
 use Rattle.registers.specs.declared.answer.Move.{Move}
@@ -23,20 +22,16 @@ use Rattle.laws.proofs.Steps.{Left, step_left, finished_finishes}
 -- COUNTERS
 
 taken_source : (s : PortName) (a b : Port) (x y : ℕ) → of_port s (of_port s (moved a.rule x) x) (of_port s y (moved b.rule y)) ≡ moved (of_port s a b).rule (of_port s x y)
-taken_source A a b x y = refl
-taken_source B a b x y = refl
+taken_source s a b x y = grind arith
 
 taken_destination : (s : PortName) (a b : Port) (x y : ℕ) → of_port s (of_port s y (moved b.rule y)) (of_port s (moved a.rule x) x) ≡ of_port s y x
-taken_destination A a b x y = refl
-taken_destination B a b x y = refl
+taken_destination s a b x y = grind arith
 
 put_source : (s : PortName) (a b : Port) (x y : ℕ) → of_port s (of_port s x (moved a.rule x)) (of_port s (moved b.rule y) y) ≡ of_port s x y
-put_source A a b x y = refl
-put_source B a b x y = refl
+put_source s a b x y = grind arith
 
 put_destination : (s : PortName) (a b : Port) (x y : ℕ) → of_port s (of_port s (moved b.rule y) y) (of_port s x (moved a.rule x)) ≡ moved (of_port s b a).rule (of_port s y x)
-put_destination A a b x y = refl
-put_destination B a b x y = refl
+put_destination s a b x y = grind arith
 
 record Same (p : Program) (k k' : Progress) : Type 0 where
   count : k'.count ≡ k.count
@@ -46,18 +41,13 @@ record Same (p : Program) (k k' : Progress) : Type 0 where
 
 closed_same : (stopped restart : Bool) (p : Program) (k : Progress) → Same p k (closed false stopped restart p k)
 unfolding closed
-closed_same false restart p k = record { count = refl; source = refl; destination = refl; held = refl }
-closed_same true restart p k = record { count = refl; source = refl; destination = refl; held = refl }
+closed_same stopped restart p k = grind arith
 
 end_mark : (ended stopped : Bool) → ends_block (finished_mark ended stopped) ≡ ended
-end_mark false false = refl
-end_mark true false = refl
-end_mark false true = refl
-end_mark true true = refl
+end_mark ended stopped = grind arith
 
 end_final : (stopped : Bool) → final (finished_mark true stopped) ≡ true
-end_final false = refl
-end_final true = refl
+end_final stopped = grind arith
 
 abbrev pub size : Option ℕ → ℕ
 size None = 0
@@ -111,8 +101,7 @@ module _ (g : Registers) (r w i : ℕ) (k : Progress)
     (few : w ≤ suc i)
     (all_written : (g.program.class ≡ Search) ⊎ (w ≡ suc i)) where
   past_written : i ≡ last_of g → (g.program.class ≡ Search) ⊎ (w ≡ suc i) → (g.program.class ≡ Search) ⊎ (last_of g < w)
-  past_written e (inl z) = inl z
-  past_written e (inr z) = inr (omega arith)
+  past_written e h = grind arith
 
   ended_on : (ended : Bool) → is_last g.program k ≡ ended → (g.program.class ≡ Search → (closed ended k.stopping g.program.restart g.program (counted k)).held ≡ None) → Ended g r w (suc i) ended (closed ended k.stopping g.program.restart g.program (counted k))
   ended_on false z sg =
@@ -141,8 +130,7 @@ ended_onward g r w i ended stopped k (inl a) = inl (rw (finished_finishes ended 
 ended_onward g r w i ended stopped k (inr a) = inr (rw (finished_finishes ended stopped) a.0, rw a.1 (end_final stopped))
 
 one_more_written : {A : Type 0} (w i : ℕ) → A ⊎ (w ≡ i) → A ⊎ (suc w ≡ suc i)
-one_more_written w i (inl x) = inl x
-one_more_written w i (inr e) = inr (omega arith)
+one_more_written w i h = grind arith
 
 pub not_written : {A : Type 0} → Read ≡ Write → A
 not_written z = absurd (true≢false (ap is_read z))
@@ -200,8 +188,8 @@ module _ (g : Registers) (r w i : ℕ) (k : Progress) (c : Contents) (a : Inside
       a.in_block (omega (arith, a.all_read)) (omega (arith, a.few)) (one_more_written w i a.all_written) (is_last p k) refl sg
 
   read_onward : (x : Class) → p.class ≡ x → k.held ≡ None → Left p (read_step x p k c) → Onward g r w i (read_step x p k c)
-  read_onward Transfer q e l = inl (read_inside _ _ _ e (λ z. let never : ◌≡◌ {A = ℕ} 0 1 = cc in omega arith))
-  read_onward Both q e l = inl (read_inside _ _ _ e (λ z. let never : ◌≡◌ {A = ℕ} 0 1 = cc in omega arith))
+  read_onward Transfer q e l = inl (read_inside _ _ _ e (λ z. cc))
+  read_onward Both q e l = inl (read_inside _ _ _ e (λ z. cc))
   read_onward Search q e l = ended_onward g (suc r) w i (is_last p k) (p.search.stop && matches p k.compare) _ (search_inside _ _ q e l.searching)
 
   read_placed : (x : Class) → Placed g r w i (read_step x p k c).move
@@ -229,19 +217,16 @@ read_kind Search p k c = refl
 -- each step is a read or a write
 pub one_of_two : (o : Option ℕ) (p : Program) (k : Progress) (c : Contents) → ((step_on o p k c).move.kind ≡ Read) ⊎ (((step_on o p k c).move.kind ≡ Write) × (o ≡ None → ⊥))
 one_of_two None p k c = inl (read_kind p.class p k c)
-one_of_two (Some v) p k c = inr (refl, λ z. let never : ◌≡◌ {A = ℕ} 0 1 = cc in omega arith)
+one_of_two (Some v) p k c = inr (refl, λ z. cc)
 
 empty_reads : {A : Type 0} (m : Kind) → (m ≡ Read) ⊎ ((m ≡ Write) × A) → (A → ⊥) → m ≡ Write → ⊥
-empty_reads m (inl q) n z = not_written (sym q ∙ z)
-empty_reads m (inr q) n z = n q.1
+empty_reads m h n z = grind arith
 
 least : (t : Bool) (n : ℕ) → n ≤ one_more_if t n
-least true n = omega arith
-least false n = omega arith
+least t n = grind arith
 
 more_written : {A : Type 0} (t : Bool) (n w : ℕ) → A ⊎ (n < w) → A ⊎ (n < one_more_if t w)
-more_written t n w (inl x) = inl x
-more_written t n w (inr h) = inr (omega (arith, least t w))
+more_written t n w h = grind arith
 
 past_placed : (g : Registers) (r w i : ℕ) (k : Progress) (m : Move) → Past g r w i k → (g.program.class ≡ Search → m.kind ≡ Write → ⊥) → Placed g r w i m
 past_placed g r w i k m a n =

@@ -1,5 +1,5 @@
 -- A read finishes nothing in class transfer or both, and there alone. Assumes nothing.
-use Rattle.std.proofs.Common.{◌≡◌, ℕ, Bool, true, false, ◌&&◌, ◌⊎◌, ◌↔◌, Some, None, Option, sym, refl, ap, ◌∙◌, inl, inr, arith}
+use Rattle.std.proofs.Common.{◌≡◌, ℕ, Bool, true, false, ◌&&◌, ◌⊎◌, ◌↔◌, Some, None, Option, sym, refl, ap, ◌∙◌, inl, inr}
 use Rattle.std.proofs.lemmas.Bool.{false≢true}
 use Rattle.control.specs.declared.fields.Class.{Class}
 use Rattle.control.specs.declared.fields.Class.TheVariants.{Transfer, Search, Both}
@@ -25,8 +25,8 @@ abbrev UnfinishedThere : Mark → Class → Type 0
 UnfinishedThere m g = (m ≡ Unfinished) ↔ Transfers g
 
 search_apart : (g : Class) → g ≡ Search → Transfers g → ⊥
-search_apart g q (inl e) = let never : ◌≡◌ {A = ℕ} 0 1 = cc in omega arith
-search_apart g q (inr e) = let never : ◌≡◌ {A = ℕ} 0 1 = cc in omega arith
+search_apart g q (inl e) = cc
+search_apart g q (inr e) = cc
 
 read_marked : (g : Class) (p : Program) (k : Progress) (c : Contents) → p.class ≡ g → UnfinishedThere (read_step g p k c).move.mark p.class
 read_marked Transfer p k c q = (λ _. inl q, λ _. refl)
@@ -44,9 +44,8 @@ worked_marked : (w : ℕ) (r : Registers) (c : Contents) → (worked w r c).answ
 worked_marked w r c z = step_marked r.progress.held r.program r.progress c z
 
 pause_apart : (d : Mode) → pause_kind d ≡ Read → ⊥
-pause_apart mode.Byte z = false≢true (ap is_read z)
-pause_apart mode.Burst z = false≢true (ap is_read z)
-pause_apart mode.Continuous z = false≢true (ap is_read z)
+pause_apart mode.Byte z = cc
+pause_apart _ z = cc
 
 marked_on : (o : Option ℕ) (a : Bool) (w : ℕ) (r : Registers) (c : Contents) → (cycled_on o a w r c).answer.kind ≡ Read → UnfinishedThere (cycled_on o a w r c).answer.mark r.program.class
 marked_on (Some v) a w r c z = worked_marked w r c z

@@ -81,8 +81,7 @@ placed_after g es front e h a = rw (before reads front, before writes front, bef
 -- HOW LONG IT TAKES
 
 step_counts : (o : Kind) {A : Type 0} (r w : ℕ) → (o ≡ Read) ⊎ ((o ≡ Write) × A) → one_more_if (is_read o) r + one_more_if (is_write o) w ≡ suc (r + w)
-step_counts o r w (inl e) = rw e (omega arith)
-step_counts o r w (inr e) = rw e.0 (omega arith)
+step_counts o r w h = grind arith
 
 -- the counts at a trail's end, where nothing has ended or stopped
 record Reached (g : Registers) (n r w : ℕ) (k : Progress) : Type 0 where
@@ -93,19 +92,16 @@ record Reached (g : Registers) (n r w : ℕ) (k : Progress) : Type 0 where
   enough : n + (r + w) ≤ r' + w'
 
 most_one : (t : Bool) (n : ℕ) → one_more_if t n ≤ suc n
-most_one true n = omega arith
-most_one false n = omega arith
+most_one t n = grind arith
 
 none_of : (t : Bool) (n : ℕ) → one_more_if t n ≡ 0 → (t ≡ false) × (n ≡ 0)
-none_of true n z = absurd (omega arith)
-none_of false n z = (refl, z)
+none_of t n z = grind arith
 
 reached_on : (g : Registers) (t : Bool) (n r w r₁ w₁ : ℕ) (k : Progress) → r₁ + w₁ ≡ suc (r + w) → Reached g n r₁ w₁ k → Reached g (one_more_if t n) r w k
 reached_on g t n r w r₁ w₁ k e x = record { r' = x.r'; w' = x.w'; i' = x.i'; inside = x.inside; enough = omega (arith, x.enough, most_one t n) }
 
 still : {A B : Type 0} (t : Bool) → t ≡ false → A ⊎ (B × (t ≡ true)) → A
-still t e (inl x) = x
-still t e (inr x) = absurd (false≢true (sym e ∙ x.1))
+still t e h = grind arith
 
 module _ (s : State) where
   abbrev g : Registers

@@ -12,8 +12,7 @@ Within Memory a = a < 65536
 Within Io a = a < 256
 
 pub address_within : (s : Space) (n : ℕ) → n < 65536 → Within s (address_of s n)
-address_within Memory n h = h
-address_within Io n h = omega arith
+address_within s n h = grind arith
 
 with_port_same : (p q : ℕ → Port) (n : ℕ) (x y : Port) → SamePorts p q → x ≡ y → SamePorts (with_port p n x) (with_port q n y)
 with_port_same p q n x y h e k l = by (eqb k n)

@@ -1,5 +1,5 @@
 -- Every cycle is a byte's read or write, or a pause: the trail of a list of calls. Assumes nothing.
-use Rattle.std.proofs.Common.{◌≡◌, ℕ, ◌≤◌, Bool, true, false, cond, ◌⊎◌, List, [], ◌∷◌, ◌++◌, Some, None, Option, sym, refl, ◌∙◌, inl, inr}
+use Rattle.std.proofs.Common.{◌≡◌, ℕ, ◌≤◌, Bool, true, false, cond, ◌⊎◌, List, [], ◌∷◌, ◌++◌, Some, None, Option, sym, refl, ◌∙◌, inl, inr, arith}
 use Rattle.std.proofs.lemmas.Bool.{true≢false}
 use Rattle.control.specs.declared.fields.Mode.{Mode}
 use Rattle.control.specs.declared.fields.Mode.TheVariants as mode
@@ -116,11 +116,7 @@ live_unless true k h u = h refl
 live_unless false k h u = u refl
 
 final_finishes : (m : Mark) → (final m ≡ true → finishes m ≡ true) × (finishes m ≡ false → final m ≡ false)
-final_finishes mark.Unfinished = (λ z. z, λ z. z)
-final_finishes mark.Finished = (λ _. refl, λ _. refl)
-final_finishes mark.Ended = (λ _. refl, λ z. z)
-final_finishes mark.Stopped = (λ _. refl, λ z. z)
-final_finishes mark.Both = (λ _. refl, λ z. z)
+final_finishes m = grind arith
 
 holds_after : (d : Mode) (p : Program) (h : Step) → Left p h → Holds (loan_after d h.move.mark) h.progress
 holds_after mode.Byte p h l = live_unless (finishes h.move.mark) h.progress l.empty (λ z. l.live ((final_finishes h.move.mark).1 z))
@@ -163,9 +159,7 @@ module _ (F : Type 0) (i : CycleInput) (s : State) (on : s.chip.registers.progre
       }
 
   holds_paused : (d : Mode) → r.progress.held ≡ None → Holds (loan_paused d) r.progress
-  holds_paused mode.Byte e = e
-  holds_paused mode.Burst e = e
-  holds_paused mode.Continuous e = on
+  holds_paused d e = grind arith
 
   is_pause : (d : Mode) → Pauses (pause_move (pause_kind d))
   is_pause mode.Byte = inr refl

@@ -5,7 +5,7 @@ use Rattle.registers.specs.declared.chip.Chip.{Chip}
 use Rattle.registers.specs.declared.fault.ChannelFault.{ChannelFault}
 use Rattle.registers.specs.declared.row.Loan.TheVariants.{Closed}
 use Rattle.registers.specs.declared.row.Registers.{Registers}
-use Rattle.registers.specs.Calls.{State, Call, write_call, table_call, status_call, open_call, cycle_call, run_call, return_call, acknowledge_call, reti_call, write_outcome, does, state_at_end}
+use Rattle.registers.specs.Calls.{State, Call, write_call, table_call, write_outcome, does, state_at_end}
 use Rattle.registers.specs.Kept.{Kept}
 use Rattle.registers.specs.Writes.{Done, wrote, table_next, table_did}
 use Rattle.laws.specs.Carried.{KeptIn, Made, CallsKeep, BytesAreCarried, BytesAreCarriedAtEachMoment, CyclesMakeTheContents}
@@ -66,13 +66,7 @@ call_whole : (c : Call) (s : State) → KeptIn s → Whole s (moments_in c s) (d
 unfolding does moments_in
 call_whole (write_call b) s h = write_whole b (wrote b s.chip) s h refl
 call_whole (table_call bs) s h = table_whole 0 bs s h
-call_whole (status_call l) s h = other_whole (status_call l) s h refl
-call_whole (open_call l) s h = other_whole (open_call l) s h refl
-call_whole (cycle_call i) s h = other_whole (cycle_call i) s h refl
-call_whole (run_call is) s h = other_whole (run_call is) s h refl
-call_whole return_call s h = other_whole return_call s h refl
-call_whole (acknowledge_call l) s h = other_whole (acknowledge_call l) s h refl
-call_whole reti_call s h = other_whole reti_call s h refl
+call_whole c s h = other_whole c s h refl
 
 all_whole : (cs : List Call) (s : State) → KeptIn s → Whole s (moments cs s) (state_at_end cs s)
 unfolding moments state_at_end

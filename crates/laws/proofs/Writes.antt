@@ -18,7 +18,7 @@ use Rattle.control.specs.declared.follower.Followers.TheVariants.{Zero, One, Two
 use Rattle.registers.specs.declared.chip.Chip.{Chip}
 use Rattle.registers.specs.declared.fault.ChannelFault.{ChannelFault}
 use Rattle.registers.specs.declared.row.Loan.{Loan}
-use Rattle.registers.specs.declared.row.Loan.TheVariants.{Closed, Master, Released}
+use Rattle.registers.specs.declared.row.Loan.TheVariants.{Closed}
 use Rattle.registers.specs.declared.row.Registers.{Registers}
 use Rattle.registers.specs.Bytes.{disabled}
 use Rattle.registers.specs.Chips.{at_progress, with_sequence}
@@ -55,11 +55,11 @@ calm r h u off q n =
             holds = rw n h;
             stopping = λ _. u;
             searching = λ _. h;
-            block = λ z. absurd (false≢true (sym off ∙ z));
-            enabling = λ z. absurd (false≢true (sym q ∙ z));
+            block = λ z. cc;
+            enabling = λ z. cc;
           };
       closed = n;
-      only_by = λ z. absurd (false≢true (sym off ∙ z));
+      only_by = λ z. cc;
     }
 
 -- ENABLING, AT ONCE OR BY THE GROUP'S LAST BYTE
@@ -87,10 +87,7 @@ module _ (r : Registers) (n : r.loan ≡ Closed) (h : r.progress.held ≡ None) 
         closed = n;
         only_by = λ _. refl;
       }
-  enabled_by_good (One a) o b = waits (One a) o b
-  enabled_by_good (Two a c) o b = waits (Two a c) o b
-  enabled_by_good (Three a c d) o b = waits (Three a c d) o b
-  enabled_by_good (Four a c d e) o b = waits (Four a c d e) o b
+  enabled_by_good due o b = waits due o b
 
   enables_good : (none above : Bool) (due : Followers) (x : Chip) → OnlySearch (listed due) → eqb r.program.length 0 ≡ none → ltb r.program.length r.progress.count ≡ above → GoodIfAccepted (due ≡ Zero) (enables none above due r x)
   enables_good true above due x o p q = tt
@@ -107,13 +104,9 @@ module _ (r : Registers) (n : r.loan ≡ Closed) (h : r.progress.held ≡ None) 
 
 -- a first byte that enables: 87h, and WR3 with its enable bit and no follower
 abbrev EnablesAtOnce : First → Followers → Type 0
-EnablesAtOnce (first.Wr0 c s) due = ⊥
-EnablesAtOnce (first.Wr1 s u) due = ⊥
-EnablesAtOnce (first.Wr2 s u) due = ⊥
 EnablesAtOnce (first.Wr3 stop interrupts enable) due = (enable ≡ true) × (due ≡ Zero)
-EnablesAtOnce (first.Wr4 o) due = ⊥
-EnablesAtOnce (first.Wr5 l heed restart) due = ⊥
 EnablesAtOnce (first.Wr6 c) due = c ≡ command.Enable
+EnablesAtOnce _ due = ⊥
 
 module _ (x : Chip) (n : x.registers.loan ≡ Closed) (h : x.registers.progress.held ≡ None) (u : x.registers.progress.stopping ≡ false) where
   read_out_good : (A : Type 0) (none : Bool) (marks : ℕ) (due : Followers) → GoodIfAccepted A (starts_read_out none marks due x)
@@ -121,40 +114,21 @@ module _ (x : Chip) (n : x.registers.loan ≡ Closed) (h : x.registers.progress.
   read_out_good A false marks due = tt
 
   command_good : (c : Command) (due : Followers) → (c ≡ command.Enable → OnlySearch (listed due)) → GoodIfAccepted (c ≡ command.Enable) (command_did c due x)
-  command_good command.PowerOn due o = record { kept = power_on_kept; closed = refl; only_by = λ z. absurd (false≢true z) }
-  command_good command.DefaultTimingA due o = calm _ h u refl refl n
-  command_good command.DefaultTimingB due o = calm _ h u refl refl n
-  command_good command.Load due o = calm _ h u refl refl n
-  command_good command.Continue due o = calm _ h u refl refl n
-  command_good command.InterruptsOff due o = calm _ h u refl refl n
-  command_good command.InterruptsOn due o = calm _ h u refl refl n
-  command_good command.InterruptsReset due o = calm _ h u refl refl n
+  command_good command.PowerOn due o = record { kept = power_on_kept; closed = refl; only_by = λ z. cc }
   command_good command.Enable due o = then_by _ (λ _. refl) (enabling_good x.registers n h u due x (o refl))
-  command_good command.Disable due o = calm _ h u refl refl n
-  command_good command.ReadMask due o = calm _ h u refl refl n
   command_good command.StartReadOut due o = read_out_good _ _ _ due
   command_good command.ReadStatus due o = read_out_good _ _ _ due
-  command_good command.ClearStatus due o = calm _ h u refl refl n
-  command_good command.ForceReady due o = calm _ h u refl refl n
+  command_good _ due o = calm _ h u refl refl n
 
   first_good : (b : ℕ) (f : First) (due : Followers) → Fitting b f due → GoodIfAccepted (EnablesAtOnce f due) (first_did f due x)
-  first_good b (first.Wr0 c s) due o = calm _ h u refl refl n
-  first_good b (first.Wr1 s a) due o = calm _ h u refl refl n
-  first_good b (first.Wr2 s a) due o = calm _ h u refl refl n
-  first_good b (first.Wr3 stop interrupts false) due o = calm _ h u refl refl n
   first_good b (first.Wr3 stop interrupts true) due o = then_by _ (λ e. (refl, e)) (enabling_good (with_wr3 stop interrupts x.registers) n h u due x o)
-  first_good b (first.Wr4 m) due o = calm _ h u refl refl n
-  first_good b (first.Wr5 l heed restart) due o = calm _ h u refl refl n
   first_good b (first.Wr6 c) due o = command_good c due (λ e. (o e).1)
+  first_good b _ due o = calm _ h u refl refl n
 
   enables_first : (b : ℕ) (f : First) → x.registers.sequence.due ≡ Zero → decoded_first b ≡ Ok f → Fitting b f (queued (followers_of b)) → EnablesAtOnce f (queued (followers_of b)) → EnablingByte b x.registers.sequence
-  enables_first b (first.Wr0 c s) q e o a = absurd a
-  enables_first b (first.Wr1 s i) q e o a = absurd a
-  enables_first b (first.Wr2 s i) q e o a = absurd a
   enables_first b (first.Wr3 stop interrupts enable) q e o a = enable_bit_alone stop interrupts q (e ∙ ap (λ t. Ok (first.Wr3 stop interrupts t)) a.0) (none_queued (followers_of b) a.1)
-  enables_first b (first.Wr4 m) q e o a = absurd a
-  enables_first b (first.Wr5 l heed restart) q e o a = absurd a
   enables_first b (first.Wr6 c) q e o a = enable_command q (o a).0
+  enables_first b _ q e o a = absurd a
 
   first_taken_good : (b : ℕ) (r : Result First DecodeFault) → x.registers.sequence.due ≡ Zero → decoded_first b ≡ r → FittingResult b r (queued (followers_of b)) → GoodIfAccepted (EnablingByte b x.registers.sequence) (decoded_did (first_taken b r) x)
   unfolding decoded_did
@@ -166,19 +140,7 @@ module _ (x : Chip) (n : x.registers.loan ≡ Closed) (h : x.registers.progress.
 -- a follower changes neither the progress nor the loan
 follower_keeps : (f : FollowerByte) (r : Registers) → ((follower_set f r).progress ≡ r.progress) × ((follower_set f r).loan ≡ r.loan)
 follower_keeps (follower.ALow b) r = (refl, refl)
-follower_keeps (follower.AHigh b) r = (refl, refl)
-follower_keeps (follower.LengthLow b) r = (refl, refl)
-follower_keeps (follower.LengthHigh b) r = (refl, refl)
-follower_keeps (follower.ATiming t) r = (refl, refl)
-follower_keeps (follower.BTiming t) r = (refl, refl)
-follower_keeps (follower.Mask b) r = (refl, refl)
-follower_keeps (follower.Match b) r = (refl, refl)
-follower_keeps (follower.BLow b) r = (refl, refl)
-follower_keeps (follower.BHigh b) r = (refl, refl)
-follower_keeps (follower.Interrupt x) r = (refl, refl)
-follower_keeps (follower.Pulse b) r = (refl, refl)
-follower_keeps (follower.Vector b) r = (refl, refl)
-follower_keeps (follower.ReadMask b) r = (refl, refl)
+follower_keeps _ r = (refl, refl)
 
 sequenced_good : (e : Bool) (due : Followers) (r : Registers) → r.loan ≡ Closed → r.progress.held ≡ None → r.progress.stopping ≡ false → (e ≡ true → OnlySearch (listed due) × InBlock r) → Good ((e ≡ true) × (due ≡ Zero)) (sequenced e due r)
 sequenced_good true due r n h u w = let g = enabled_by_good r n h u due (w refl).0 (w refl).1 in record { kept = g.kept; closed = g.closed; only_by = λ z. (refl, g.only_by z) }
@@ -218,17 +180,16 @@ module _ (x : Chip) (n : x.registers.loan ≡ Closed) (h : x.registers.progress.
   decoded_good : (due : Followers) (b : ℕ) → x.registers.sequence.due ≡ due → (waiting ≡ true → OnlySearch (listed due) × InBlock x.registers) → GoodIfAccepted (EnablingByte b x.registers.sequence) (decoded_did (decoded due b) x)
   decoded_good Zero b q w = first_taken_good x n h u b (decoded_first b) q refl (first_fits b)
   decoded_good (One a) b q w = then_by _ (λ l. enable_bit_before a q l.0) (taken_good _ a Zero b refl w)
-  decoded_good (Two a c) b q w = then_by _ (λ l. let e = l.1 in let never : ◌≡◌ {A = ℕ} 0 1 = cc in absurd (omega arith)) (taken_good _ a (One c) b refl w)
-  decoded_good (Three a c d) b q w = then_by _ (λ l. let e = l.1 in let never : ◌≡◌ {A = ℕ} 0 1 = cc in absurd (omega arith)) (taken_good _ a (Two c d) b refl w)
-  decoded_good (Four a c d f) b q w = then_by _ (λ l. let e = l.1 in let never : ◌≡◌ {A = ℕ} 0 1 = cc in absurd (omega arith)) (taken_good _ a (Three c d f) b refl w)
+  decoded_good (Two a c) b q w = then_by _ (λ l. cc) (taken_good _ a (One c) b refl w)
+  decoded_good (Three a c d) b q w = then_by _ (λ l. cc) (taken_good _ a (Two c d) b refl w)
+  decoded_good (Four a c d f) b q w = then_by _ (λ l. cc) (taken_good _ a (Three c d f) b refl w)
 
 write_good : (l : Loan) (b : ℕ) (x : Chip) → x.registers.loan ≡ l → Kept x.registers → GoodIfAccepted (EnablingByte b x.registers.sequence) (write_did l b x)
 unfolding write_did
 write_good Closed b x n k =
     let h : x.registers.progress.held ≡ None = rw n at k.holds in
     decoded_good x n h (k.stopping h) x.registers.sequence.due b refl (λ z. let w = k.enabling z in (w.followers, w.block))
-write_good Master b x n k = tt
-write_good Released b x n k = tt
+write_good _ b x n k = tt
 
 -- an accepted byte finds no loan open and leaves none
 pub record Wrote (b : ℕ) (x y : Chip) : Type 0 where
@@ -240,8 +201,7 @@ pub record Wrote (b : ℕ) (x y : Chip) : Type 0 where
 closed_before : (l : Loan) (b : ℕ) (x y : Chip) → write_did l b x ≡ Ok y → l ≡ Closed
 unfolding write_did
 closed_before Closed b x y z = refl
-closed_before Master b x y z = let never : ◌≡◌ {A = ℕ} 0 1 = cc in absurd (omega arith)
-closed_before Released b x y z = let never : ◌≡◌ {A = ℕ} 0 1 = cc in absurd (omega arith)
+closed_before _ b x y z = cc
 
 pub wrote_kept : (b : ℕ) (x y : Chip) → Kept x.registers → wrote b x ≡ Ok y → Wrote b x y
 unfolding wrote

@@ -1,5 +1,5 @@
 -- The reads and writes follow from what an enabling leaves, and two boards end alike. Assumes nothing.
-use Rattle.std.specs.Prelude.{◌≡◌, ◌<◌, Bool, true, false, T, List, [], ◌∷◌, ◌++◌}
+use Rattle.std.specs.Prelude.{◌≡◌, ◌<◌, Bool, true, false, IsTrue, List, [], ◌∷◌, ◌++◌}
 use Rattle.registers.specs.declared.answer.Kind.{Kind}
 use Rattle.registers.specs.declared.answer.Kind.TheVariants.{Read, Write, Idle, Release}
 use Rattle.registers.specs.declared.answer.Move.{Move}
@@ -90,7 +90,7 @@ is_bus_call reti_call = false
 -- only such calls
 abbrev pub BusOnly : List Call → Type 0
 BusOnly [] = Unit {0}
-BusOnly (c ∷ cs) = T (is_bus_call c) × BusOnly cs
+BusOnly (c ∷ cs) = IsTrue (is_bus_call c) × BusOnly cs
 
 -- ended or stopped since the state was found, with no loan open
 pub record Finished (es : List Event) (s : State) : Type 0 where
