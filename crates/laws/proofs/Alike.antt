@@ -1,6 +1,5 @@
 -- Equal progress and equal contents step alike. Assumes nothing.
 use Rattle.std.proofs.Common.{◌≡◌, ℕ, ◌<◌, Bool, false, ◌&&◌, Some, None, Option, refl, ap, subst, arith}
-use Rattle.control.specs.declared.fields.AddressRule.{AddressRule}
 use Rattle.control.specs.declared.fields.Class.{Class}
 use Rattle.control.specs.declared.fields.Class.TheVariants.{Transfer, Search, Both}
 use Rattle.control.specs.declared.fields.PortName.{PortName}
@@ -9,46 +8,23 @@ use Rattle.registers.specs.declared.answer.Mark.TheVariants.{Unfinished}
 use Rattle.registers.specs.declared.latches.Latches.{Latches}
 use Rattle.registers.specs.declared.program.Program.{Program}
 use Rattle.registers.specs.declared.progress.Progress.{Progress}
-use Rattle.registers.specs.Bytes.{Step, step, step_on, read_step, latched, loaded, closed, counted, finished, finished_mark, is_last, pulsed, matches, taken_in, put_out}
+use Rattle.registers.specs.Bytes.{Step, step, step_on, read_step, latched, closed, finished, finished_mark, is_last, pulsed, matches, taken_in}
 use Rattle.registers.specs.Contents.{Contents, byte_at, SameContents}
-use Rattle.registers.specs.Ports.{of_port, moved, loaded_destination, address_of, source_port, destination_port, source_counter, destination_counter}
+use Rattle.registers.specs.Ports.{of_port, address_of, source_port, destination_port, source_counter, destination_counter}
 use Rattle.laws.specs.Boards.{InRange}
 use Rattle.laws.proofs.Spaces.{Within, address_within, byte_same, read_same, write_same}
 
 -- COUNTERS STAY IN RANGE
 
-moved_in_range : (u : AddressRule) (n : ℕ) → n < 65536 → moved u n < 65536
-moved_in_range u n h = grind arith
-
-loaded_in_range : (u : AddressRule) (start old : ℕ) → start < 65536 → old < 65536 → loaded_destination u start old < 65536
-loaded_in_range u start old h k = grind arith
-
 port_in_range : (s : PortName) (x y : ℕ) → x < 65536 → y < 65536 → of_port s x y < 65536
 port_in_range s x y h k = grind arith
 
--- the same starts, and counters in range
-ranged : (p : Program) (k k' : Progress) → InRange p k → k'.a < 65536 → k'.b < 65536 → InRange p k'
-ranged p k k' h x y = record { a = x; b = y; start_a = h.start_a; start_b = h.start_b }
-
-loaded_ranged : (p : Program) (k : Progress) → InRange p k → InRange p (loaded p k)
-loaded_ranged p k h =
-    ranged p k (loaded p k) h (port_in_range p.source _ _ h.start_a (loaded_in_range p.a.rule _ _ h.start_a h.a))
-    (port_in_range p.source _ _ (loaded_in_range p.b.rule _ _ h.start_b h.b) h.start_b)
-
-closed_ranged : (ended stopped restart : Bool) (p : Program) (k : Progress) → InRange p k → InRange p (closed ended stopped restart p k)
-unfolding closed
-closed_ranged ended stopped restart p k h = let l = loaded_ranged p k h in grind arith
-
 finished_ranged : (p : Program) (k : Progress) → InRange p k → InRange p (finished p k)
-finished_ranged p k h = closed_ranged (is_last p k) k.stopping p.restart p (counted k) (ranged p k (counted k) h h.a h.b)
+unfolding closed
+finished_ranged p k h = grind arith
 
 taken_ranged : (p : Program) (held compare : Option ℕ) (stopping : Bool) (k : Progress) → InRange p k → InRange p (taken_in p held compare stopping k)
-taken_ranged p held compare stopping k h =
-    ranged p k _ h (port_in_range p.source _ _ (moved_in_range p.a.rule k.a h.a) h.a) (port_in_range p.source _ _ h.b (moved_in_range p.b.rule k.b h.b))
-
-put_ranged : (p : Program) (k : Progress) → InRange p k → InRange p (put_out p k)
-put_ranged p k h =
-    ranged p k _ h (port_in_range p.source _ _ h.a (moved_in_range p.a.rule k.a h.a)) (port_in_range p.source _ _ (moved_in_range p.b.rule k.b h.b) h.b)
+taken_ranged p held compare stopping k h = grind arith
 
 -- STEPS ALIKE
 
@@ -61,7 +37,7 @@ pub record StepsAlike (p : Program) (h j : Step) : Type 0 where
 
 module _ (p : Program) (k : Progress) (c d : Contents) (h : InRange p k) (e : SameContents c d) where
   source_within : Within (source_port p).space (address_of (source_port p).space (source_counter p k))
-  source_within = address_within (source_port p).space (source_counter p k) (port_in_range p.source k.a k.b h.a h.b)
+  source_within = grind arith
 
   destination_within : Within (destination_port p).space (address_of (destination_port p).space (destination_counter p k))
   destination_within = address_within (destination_port p).space (destination_counter p k) (port_in_range p.source k.b k.a h.b h.a)
@@ -97,9 +73,9 @@ module _ (p : Program) (k : Progress) (c d : Contents) (h : InRange p k) (e : Sa
       }
 
   step_alike_on : (o : Option ℕ) → StepsAlike p (step_on o p k c) (step_on o p k d)
+  unfolding closed
+  step_alike_on (Some v) = let w = write_same (destination_port p).space _ v c d destination_within e in grind arith
   step_alike_on None = read_alike p.class
-  step_alike_on (Some v) =
-      record { move = refl; matched = refl; progress = refl; contents = write_same (destination_port p).space _ v c d destination_within e; in_range = finished_ranged p _ (put_ranged p k h) }
 
 pub step_alike : (p : Program) (k l : Progress) (c d : Contents) → InRange p k → k ≡ l → SameContents c d → StepsAlike p (step p k c) (step p l d)
 step_alike p k l c d h q e = subst (λ l. StepsAlike p (step p k c) (step p l d)) q (step_alike_on p k c d h e k.held)

@@ -1,8 +1,5 @@
 -- What was found decides the reads and writes, and two boards found alike end alike. Assumes nothing.
-use Rattle.std.proofs.Common.{◌≡◌, ℕ, ◌<◌, Bool, true, false, ◌⊎◌, List, [], ◌∷◌, ◌++◌, sym, refl, ap, ◌∙◌, inl, inr, arith}
-use Rattle.std.proofs.lemmas.Bool.{false≢true}
-use Rattle.registers.specs.declared.answer.Kind.{Kind}
-use Rattle.registers.specs.declared.answer.Kind.TheVariants.{Read, Write}
+use Rattle.std.proofs.Common.{◌≡◌, ℕ, ◌<◌, Bool, true, false, List, [], ◌∷◌, ◌++◌, sym, refl, ap, ◌∙◌, arith}
 use Rattle.registers.specs.declared.answer.Move.{Move}
 use Rattle.registers.specs.declared.manner.Manner.{Manner}
 use Rattle.registers.specs.declared.program.Program.{Program}
@@ -17,7 +14,6 @@ use Rattle.laws.specs.Moments.{Moment, moments, events_in}
 use Rattle.laws.proofs.Steps.{step_off}
 use Rattle.laws.proofs.Trails.{Course, course, Pauses, Trail, here, pause, go, relatch, step_of, next}
 use Rattle.laws.proofs.Calls.{uncontrolled_walk, bus_walk, moments_have_the_events}
-use Rattle.laws.proofs.Inside.{one_of_two}
 use Rattle.laws.proofs.Alike.{StepsAlike, step_alike, latched_alike}
 
 -- THE MOVES OF A TRAIL
@@ -29,22 +25,17 @@ abbrev finals : List Move → ℕ
 finals [] = 0
 finals (m ∷ ms) = one_more_if (final m.mark) (finals ms)
 
-is_move : {A : Type 0} (m : Move) (k : Kind) (ms : List Move) → (k ≡ Read) ⊎ ((k ≡ Write) × A) → move_if k m ++ ms ≡ m ∷ ms
-is_move m k ms (inl e) = ap (λ k. move_if k m ++ ms) e
-is_move m k ms (inr e) = ap (λ k. move_if k m ++ ms) e.0
-
 step_moves : (p : Program) (b : Course) (m : Move) (ms : List Move) → m ≡ (step_of p b).move → move_if m.kind m ++ ms ≡ m ∷ ms
-step_moves p b m ms e = ap (λ x. move_if x.kind m ++ ms) e ∙ is_move m (step_of p b).move.kind ms (one_of_two b.progress.held p b.progress b.contents)
+step_moves p b m ms e = grind arith
 
 pause_moves : (m : Move) (ms : List Move) → Pauses m → (move_if m.kind m ++ ms ≡ ms) × (final m.mark ≡ false)
-pause_moves m ms (inl e) = (ap (λ x. move_if x.kind m ++ ms) e, ap (λ x. final x.mark) e)
-pause_moves m ms (inr e) = (ap (λ x. move_if x.kind m ++ ms) e, ap (λ x. final x.mark) e)
+pause_moves m ms h = grind arith
 
 -- an end or stop is seen in the reads and writes
 trail_finals : {F : Type 0} {f : Bool} {n : Manner} {p : Program} {b b' : Course} {ms : List Moment} → Trail F f n p b ms b' → many is_final (events_in ms) ≡ finals (moves_in ms)
 trail_finals here = refl
-trail_finals (pause {m = m} {ms = ms} h t) = let q = pause_moves (move_of m.event) (moves_in ms) h.is in rw (q.0, q.1) (trail_finals t)
-trail_finals {p = p} (go {b = b} {m = m} {ms = ms} h t) = rw (step_moves p b (move_of m.event) (moves_in ms) h.is) (ap (one_more_if (is_final m.event)) (trail_finals t))
+trail_finals (pause {m = m} {ms = ms} h t) = grind (arith, pause_moves, trail_finals t)
+trail_finals {p = p} (go {b = b} {m = m} {ms = ms} h t) = grind (arith, step_moves, trail_finals t)
 trail_finals (relatch f l t) = trail_finals t
 
 -- WHATEVER THE CALLS
@@ -103,13 +94,11 @@ record CoursesAlike (b d : Course) : Type 0 where
 
 -- a disabled channel reads and writes nothing
 chain_off : (p : Program) (b b' : Course) (ms : List Move) → b.progress.enabled ≡ false → Chain p b ms b' → (ms ≡ []) × (b' ≡ b)
-chain_off p b b' [] z h = (refl, h)
-chain_off p b b' (m ∷ ms) z h = absurd (false≢true (sym z ∙ h.0))
+chain_off p b b' [] z h = grind arith
+chain_off p b b' (m ∷ ms) z h = grind arith
 
 next_alike : (p : Program) (b d : Course) → InRange p b.progress → CoursesAlike b d → StepsAlike p (step_of p b) (step_of p d) × CoursesAlike (next p b) (next p d)
-next_alike p b d h a =
-    let s = step_alike p b.progress d.progress b.contents d.contents h a.progress a.contents in
-    (s, record { progress = s.progress; latches = latched_alike p (step_of p b) (step_of p d) b.latches d.latches s a.latches; contents = s.contents })
+next_alike p b d h a = grind (arith, step_alike, latched_alike)
 
 abbrev SameEnd : List Move → List Move → Course → Course → Type 0
 SameEnd ms ns x y = (ms ≡ ns) × CoursesAlike x y
@@ -117,18 +106,7 @@ SameEnd ms ns x y = (ms ≡ ns) × CoursesAlike x y
 -- two chains from courses alike
 module _ (p : Program) (r : p.restart ≡ false) where
   chain_step : (b d x y : Course) (m n : Move) (ms ns : List Move) (t : Bool) → final m.mark ≡ t → InRange p b.progress → CoursesAlike b d → Chain p b (m ∷ ms) x → Chain p d (n ∷ ns) y → (t ≡ false → SameEnd ms ns x y) → SameEnd (m ∷ ms) (n ∷ ns) x y
-  chain_step b d x y m n ms ns true z h a u v f =
-      let s = next_alike p b d h a in
-      let off = step_off p b.progress b.contents (λ _. r) (ap (λ w. final w.mark) (sym u.1) ∙ z) in
-      let i = chain_off p (next p b) x ms off u.2 in
-      let j = chain_off p (next p d) y ns (ap (λ k. k.enabled) (sym s.0.progress) ∙ off) v.2 in
-      let e : m ≡ n = u.1 ∙ s.0.move ∙ sym v.1 in
-      let q : ms ≡ ns = i.0 ∙ sym j.0 in
-      (cc, rw (i.1, j.1) s.1)
-  chain_step b d x y m n ms ns false z h a u v f =
-      let e : m ≡ n = u.1 ∙ (next_alike p b d h a).0.move ∙ sym v.1 in
-      let q : ms ≡ ns = (f refl).0 in
-      (cc, (f refl).1)
+  chain_step b d x y m n ms ns t z h a u v f = grind (arith, next_alike, step_off, chain_off)
 
   chain_same : (b d x y : Course) (ms ns : List Move) → InRange p b.progress → CoursesAlike b d → Chain p b ms x → Chain p d ns y → 0 < finals ms → 0 < finals ns → SameEnd ms ns x y
   chain_same b d x y [] ns h a u v f g = absurd (omega arith)

@@ -1,5 +1,5 @@
 -- Every call that accepts no control byte is a walk, and so is a list of them. Assumes nothing.
-use Rattle.std.proofs.Common.{◌≡◌, ℕ, ◌+◌, ◌<◌, Bool, true, false, IsTrue, ◌⊎◌, List, [], ◌∷◌, ◌++◌, length, Ok, Err, Result, refl, ap, ◌∙◌, inl, inr, arith}
+use Rattle.std.proofs.Common.{◌≡◌, ℕ, ◌+◌, ◌<◌, Bool, true, false, IsTrue, ◌⊎◌, List, [], ◌∷◌, ◌++◌, length, Result, refl, ap, inl, inr, arith}
 use Rattle.control.specs.declared.fault.TableFault.{TableFault}
 use Rattle.control.specs.declared.fields.Level.{Level}
 use Rattle.registers.specs.declared.chip.Chip.{Chip}
@@ -12,7 +12,7 @@ use Rattle.registers.specs.declared.row.Loan.{Loan}
 use Rattle.registers.specs.declared.row.Loan.TheVariants.{Closed, Master, Released}
 use Rattle.registers.specs.declared.row.Registers.{Registers}
 use Rattle.registers.specs.declared.row.Service.{Service}
-use Rattle.registers.specs.Calls.{State, Call, write_call, table_call, status_call, open_call, cycle_call, run_call, return_call, acknowledge_call, reti_call, open_did, opened, return_did, returned, event_on, event_of, events_of, state_after, write_outcome, does, events, state_at_end}
+use Rattle.registers.specs.Calls.{State, Call, write_call, table_call, status_call, open_call, cycle_call, run_call, return_call, acknowledge_call, reti_call, open_did, opened, return_did, returned, event_on, events_of, state_after, write_outcome, does, events, state_at_end}
 use Rattle.registers.specs.Chips.{with_loan, with_latches, with_service, with_registers, with_readout}
 use Rattle.registers.specs.Cycles.{is_active}
 use Rattle.registers.specs.Interrupts.{acknowledge_did, acknowledged, reti_did, returned_from, requested}
@@ -20,7 +20,7 @@ use Rattle.registers.specs.Kept.{Kept, Holds}
 use Rattle.registers.specs.ReadOuts.{status_did, status_read}
 use Rattle.registers.specs.Writes.{Done, wrote, table_next, table_did}
 use Rattle.laws.specs.Carried.{KeptIn}
-use Rattle.laws.specs.Moments.{Moment, moment_on, moment_of, moments_of, moments_in, moments, events_in, MomentsHaveTheEvents}
+use Rattle.laws.specs.Moments.{Moment, moment_on, moments_of, moments_in, moments, events_in, MomentsHaveTheEvents}
 use Rattle.laws.specs.Enabling.{bytes_accepted, TakesNone, Uncontrolled}
 use Rattle.laws.specs.Boards.{is_bus_call, BusOnly}
 use Rattle.laws.proofs.Trails.{here, relatch, Walk, stay, walk_then, cycle_walk, run_walk}
@@ -33,14 +33,7 @@ at_chip x s = record { chip = x; contents = s.contents }
 
 -- the same program, progress and sequence, and another loan
 with_loan_kept : (n : Loan) (l : Latches) (v : Service) (r : Registers) → Holds n r.progress → Kept r → Kept (with_loan n (with_latches l (with_service v r)))
-with_loan_kept n l v r h k =
-    record {
-      holds = h;
-      stopping = k.stopping;
-      searching = k.searching;
-      block = λ z. let b = k.block z in record { some_length = b.some_length; count = b.count };
-      enabling = λ z. let w = k.enabling z in record { disabled = w.disabled; followers = w.followers; block = record { some_length = w.block.some_length; count = w.block.count } };
-    }
+with_loan_kept n l v r h k = grind arith
 
 -- other latches, service and read-out: not in a call of the buses
 served_walk : (F : Type 0) → F → (l : Latches) (v : Service) (o : ReadOut) (s : State) → KeptIn s → Walk F s [] (at_chip (with_readout o (with_registers (with_service v (with_latches l s.chip.registers)) s.chip)) s)
@@ -57,24 +50,13 @@ served_walk F f l v o s h =
     }
 
 loan_walk : (F : Type 0) (n : Loan) (s : State) → Holds n s.chip.registers.progress → KeptIn s → Walk F s [] (at_chip (with_registers (with_loan n s.chip.registers) s.chip) s)
-loan_walk F n s q h =
-    record {
-      trail = here;
-      kept = with_loan_kept n s.chip.registers.latches s.chip.registers.service s.chip.registers q h;
-      program = refl;
-      manner = refl;
-      forcing = refl;
-      sequence = refl;
-      service = λ _. refl;
-      readout = λ _. refl;
-    }
+loan_walk F n s q h = grind (arith, here, with_loan_kept)
 
 -- CONTROL BYTES THAT ARE REFUSED
 
 write_walk : (F : Type 0) (v : Result Chip ChannelFault) (s : State) → KeptIn s → bytes_accepted 1 (write_outcome v s).outcome ≡ 0 → Walk F s [] (write_outcome v s).state
 unfolding write_outcome
-write_walk F (Ok y) s h z = absurd (omega arith)
-write_walk F (Err f) s h z = stay h
+write_walk F v s h z = grind (arith, stay)
 
 abbrev TableAnswer : Type 0
 TableAnswer = Result (Unit {0}) (TableFault ChannelFault)
@@ -82,23 +64,17 @@ TableAnswer = Result (Unit {0}) (TableFault ChannelFault)
 -- after a byte has been accepted, some has
 some_next : (v : Result Chip ChannelFault) (l i : ℕ) (rest : Chip → Done TableAnswer) (x : Chip) → 0 < i → ((y : Chip) → bytes_accepted l (outcome.WroteTable (rest y).answer) ≡ 0 → ⊥) → bytes_accepted l (outcome.WroteTable (table_next v i rest x).answer) ≡ 0 → ⊥
 unfolding table_next
-some_next (Ok y) l i rest x q f z = f y z
-some_next (Err e) l i rest x q f z = omega arith
+some_next v l i rest x q f z = grind arith
 
 some : (bs : List ℕ) (l i : ℕ) (x : Chip) → 0 < l → 0 < i → bytes_accepted l (outcome.WroteTable (table_did i bs x).answer) ≡ 0 → ⊥
 unfolding table_did
 some [] l i x p q z = omega arith
 some (b ∷ bs) l i x p q z = some_next (wrote b x) l i _ x q (λ y. some bs l (i + 1) y p (omega arith)) z
 
-none_next : (v : Result Chip ChannelFault) (l : ℕ) (rest : Chip → Done TableAnswer) (x : Chip) → ((y : Chip) → bytes_accepted l (outcome.WroteTable (rest y).answer) ≡ 0 → ⊥) → bytes_accepted l (outcome.WroteTable (table_next v 0 rest x).answer) ≡ 0 → (table_next v 0 rest x).chip ≡ x
-unfolding table_next
-none_next (Ok y) l rest x f z = absurd (f y z)
-none_next (Err e) l rest x f z = refl
-
 none : (bs : List ℕ) (x : Chip) → bytes_accepted (length bs) (outcome.WroteTable (table_did 0 bs x).answer) ≡ 0 → (table_did 0 bs x).chip ≡ x
-unfolding table_did
+unfolding table_did table_next
 none [] x z = refl
-none (b ∷ bs) x z = none_next (wrote b x) (length (b ∷ bs)) _ x (λ y. some bs (length (b ∷ bs)) (0 + 1) y (omega arith) (omega arith)) z
+none (b ∷ bs) x z = grind (arith, some)
 
 same_walk : (F : Type 0) (x : Chip) (s : State) → x ≡ s.chip → KeptIn s → Walk F s [] (at_chip x s)
 same_walk F x s e h = rw e (stay h)
@@ -134,8 +110,7 @@ return_walk F _ s q h = stay h
 
 -- only F lets a call change the latches, the service and the read-out
 permitted : {F : Type 0} {b : Bool} → b ≡ false → IsTrue b ⊎ F → F
-permitted e (inl t) = cc
-permitted e (inr f) = f
+permitted e h = grind arith
 
 pub call_walk : (F : Type 0) (c : Call) (s : State) → KeptIn s → IsTrue (is_bus_call c) ⊎ F → TakesNone c s → Walk F s (moments_in c s) (does c s).state
 unfolding does moments_in status_read opened returned acknowledged returned_from
@@ -158,11 +133,7 @@ uncontrolled_walk (c ∷ cs) s h u =
 
 bus_takes_none : (c : Call) (s : State) → IsTrue (is_bus_call c) → TakesNone c s
 unfolding does
-bus_takes_none (open_call l) s t = refl
-bus_takes_none (cycle_call i) s t = refl
-bus_takes_none (run_call is) s t = refl
-bus_takes_none return_call s t = refl
-bus_takes_none _ s t = cc
+bus_takes_none c s t = grind arith
 
 pub bus_walk : (cs : List Call) (s : State) → KeptIn s → BusOnly cs → Walk ⊥ s (moments cs s) (state_at_end cs s)
 unfolding moments state_at_end
@@ -179,27 +150,22 @@ events_in_then (m ∷ ms) ns = ap (λ es. m.event ∷ es) (events_in_then ms ns)
 
 cycle_has : (n : Loan) (i : CycleInput) (s : State) → events_in (moment_on n i s) ≡ event_on n i s
 unfolding moment_on event_on
-cycle_has Master i s = refl
-cycle_has _ i s = refl
+cycle_has n i s = grind arith
 
 run_has : (is : List CycleInput) (s : State) → events_in (moments_of is s) ≡ events_of is s
 unfolding moments_of events_of
 run_has [] s = refl
-run_has (i ∷ is) s = events_in_then (moment_of i s) (moments_of is (state_after i s)) ∙ ap (λ es. es ++ events_in (moments_of is (state_after i s))) (cycle_has s.chip.registers.loan i s) ∙ ap (λ es. event_of i s ++ es) (run_has is (state_after i s))
+run_has (i ∷ is) s = let h = run_has is (state_after i s) in grind (arith, events_in_then, cycle_has)
 
 write_has : (v : Result Chip ChannelFault) (s : State) → [] ≡ (write_outcome v s).events
 unfolding write_outcome
-write_has (Ok y) s = refl
-write_has _ s = refl
+write_has v s = grind arith
 
 call_has : (c : Call) (s : State) → events_in (moments_in c s) ≡ (does c s).events
 unfolding does moments_in
-call_has (write_call b) s = write_has (wrote b s.chip) s
-call_has (cycle_call i) s = cycle_has s.chip.registers.loan i s
-call_has (run_call is) s = run_has is s
-call_has _ s = refl
+call_has c s = grind (arith, cycle_has, run_has, write_has)
 
 pub moments_have_the_events : MomentsHaveTheEvents
 unfolding events moments
 moments_have_the_events s [] = refl
-moments_have_the_events s (c ∷ cs) = let s' = (does c s).state in events_in_then (moments_in c s) (moments cs s') ∙ ap (λ es. es ++ events_in (moments cs s')) (call_has c s) ∙ ap (λ es. (does c s).events ++ es) (moments_have_the_events s' cs)
+moments_have_the_events s (c ∷ cs) = let h = moments_have_the_events (does c s).state cs in rw (events_in_then, call_has c s, h)

@@ -1,18 +1,16 @@
 -- Along a trail: the bytes are carried, and the spaces hold what was written. Assumes nothing.
-use Rattle.std.proofs.Common.{◌≡◌, ℕ, Bool, ◌&&◌, List, [], ◌∷◌, ◌++◌, Some, None, Option, sym, refl, ap, ◌∙◌, subst, inl, inr, append_assoc, append-nil}
-use Rattle.control.specs.declared.fields.Class.{Class}
-use Rattle.control.specs.declared.fields.Class.TheVariants.{Transfer, Search, Both}
+use Rattle.std.proofs.Common.{◌≡◌, ℕ, Bool, List, [], ◌∷◌, ◌++◌, None, Option, sym, refl, ap, subst, append_assoc, append-nil, arith}
 use Rattle.registers.specs.declared.answer.Move.{Move}
 use Rattle.registers.specs.declared.manner.Manner.{Manner}
 use Rattle.registers.specs.declared.program.Program.{Program}
 use Rattle.registers.specs.declared.progress.Progress.{Progress}
-use Rattle.registers.specs.Bytes.{step_on, read_step, is_last, matches}
+use Rattle.registers.specs.Bytes.{step_on}
 use Rattle.registers.specs.Calls.{Event}
 use Rattle.registers.specs.Contents.{Contents}
 use Rattle.laws.specs.Events.{move_of, read_in, written_in, transfer_reads, bytes_written, as_list, held_in}
 use Rattle.laws.specs.Moments.{Moment, events_in}
 use Rattle.laws.specs.Carried.{AnsweredBy, made_by, Made}
-use Rattle.laws.proofs.Steps.{Left, step_left, finished_finishes}
+use Rattle.laws.proofs.Steps.{Left, step_left}
 use Rattle.laws.proofs.Trails.{Course, Pauses, Trail, here, pause, go, relatch, next}
 
 -- WHAT THE SPACES HOLD
@@ -20,35 +18,28 @@ use Rattle.laws.proofs.Trails.{Course, Pauses, Trail, here, pause, go, relatch, 
 Makes : Move → Contents → Contents → Type 0
 Makes m c c' = AnsweredBy m.kind m c × (made_by m.kind m c ≡ c')
 
-read_makes : (g : Class) (p : Program) (k : Progress) (c : Contents) → Makes (read_step g p k c).move c (read_step g p k c).contents
-unfolding Makes
-read_makes Transfer p k c = (refl, refl)
-read_makes Both p k c = (refl, refl)
-read_makes Search p k c = (refl, refl)
-
 step_makes : (o : Option ℕ) (p : Program) (k : Progress) (c : Contents) → Makes (step_on o p k c).move c (step_on o p k c).contents
 unfolding Makes
-step_makes None p k c = unfold Makes in read_makes p.class p k c
-step_makes (Some v) p k c = (tt, refl)
+step_makes o p k c = grind arith
 
 pause_makes : (m : Move) (c : Contents) → Pauses m → Makes m c c
 unfolding Makes
-pause_makes m c (inl e) = rw e (tt, refl)
-pause_makes m c (inr e) = rw e (tt, refl)
+pause_makes m c h = grind arith
 
 made_next : (e : Event) (es : List Event) (c c' c'' : Contents) → Makes (move_of e) c c' → Made c' es c'' → Made c (e ∷ es) c''
 unfolding Makes
-made_next e es c c' c'' d h = (d.0, rw d.1 h)
+made_next e es c c' c'' d h = grind arith
 
 pub trail_made : {F : Type 0} {f : Bool} {n : Manner} {p : Program} {b b' : Course} {ms : List Moment} → Trail F f n p b ms b' → Made b.contents (events_in ms) b'.contents
+unfolding Makes
 trail_made here = refl
-trail_made (pause {m = m} h t) = made_next m.event _ _ _ _ (pause_makes _ _ h.is) (trail_made t)
-trail_made {p = p} (go {b = b} {m = m} h t) = made_next m.event _ b.contents (next p b).contents _ (rw h.is (step_makes b.progress.held p b.progress b.contents)) (trail_made t)
+trail_made (pause {m = m} h t) = grind (arith, made_next, pause_makes, trail_made t)
+trail_made {p = p} (go {b = b} {m = m} h t) = grind (arith, made_next, step_makes, trail_made t)
 trail_made (relatch f l t) = trail_made t
 
 pub made_then : (ms ns : List Moment) (c c' c'' : Contents) → Made c (events_in ms) c' → Made c' (events_in ns) c'' → Made c (events_in (ms ++ ns)) c''
-made_then [] ns c c' c'' h k = rw (← h) k
-made_then (m ∷ ms) ns c c' c'' h k = (h.0, made_then ms ns _ c' c'' h.1 k)
+made_then [] ns c c' c'' h k = grind arith
+made_then (m ∷ ms) ns c c' c'' h k = grind (arith, made_then ms ns _ c' c'' h.1 k)
 
 -- THE BYTES CARRIED
 
@@ -60,23 +51,14 @@ abbrev pub Passed : Option ℕ → List Moment → Option ℕ → Type 0
 Passed h [] h' = h' ≡ h
 Passed h (m ∷ ms) h' = Passes h (move_of m.event) (held_in m.state) × Passed (held_in m.state) ms h'
 
-read_passes : (g : Class) (p : Program) (k : Progress) (c : Contents) → Left p (read_step g p k c) → Passes None (read_step g p k c).move (read_step g p k c).progress.held
-read_passes Transfer p k c l = refl
-read_passes Both p k c l = refl
-read_passes Search p k c l =
-    let q = finished_finishes (is_last p k) (p.search.stop && matches p k.compare) in
-    rw (l.empty q, q)
-
 step_passes : (o : Option ℕ) (p : Program) (k : Progress) (c : Contents) → Left p (step_on o p k c) → Passes o (step_on o p k c).move (step_on o p k c).progress.held
-step_passes None p k c l = read_passes p.class p k c l
-step_passes (Some v) p k c l = rw (l.empty (finished_finishes (is_last p k) k.stopping))
+step_passes o p k c l = grind arith
 
 pause_passes : (m : Move) (h : Option ℕ) → h ≡ None → Pauses m → Passes h m h
-pause_passes m h z (inl e) = rw (e, z)
-pause_passes m h z (inr e) = rw (e, z)
+pause_passes m h z e = grind arith
 
 passed_next : (m : Moment) (ms : List Moment) (h h₁ h' : Option ℕ) → held_in m.state ≡ h₁ → Passes h (move_of m.event) h₁ → Passed h₁ ms h' → Passed h (m ∷ ms) h'
-passed_next m ms h h₁ h' e x y = rw e (x, y)
+passed_next m ms h h₁ h' e x y = grind arith
 
 pub trail_passed : {F : Type 0} {f : Bool} {n : Manner} {p : Program} {b b' : Course} {ms : List Moment} → Trail F f n p b ms b' → Passed b.progress.held ms b'.progress.held
 trail_passed here = refl
@@ -92,13 +74,8 @@ passed_then (m ∷ ms) ns h h' h'' u v = (u.0, passed_then ms ns (held_in m.stat
 
 -- what is read and not written is what is held
 pub passed_bytes : (ms : List Moment) (h h' : Option ℕ) → Passed h ms h' → as_list h ++ transfer_reads (events_in ms) ≡ bytes_written (events_in ms) ++ as_list h'
-passed_bytes [] h h' u = append-nil (as_list h) ∙ ap as_list (sym u)
-passed_bytes (m ∷ ms) h h' u =
-    let R = read_in (move_of m.event) in
-    let W = written_in (move_of m.event) in
-    let es = events_in ms in
-    let h₁ = held_in m.state in
-    sym (append_assoc (as_list h) R (transfer_reads es)) ∙ ap (λ l. l ++ transfer_reads es) u.0 ∙ append_assoc W (as_list h₁) (transfer_reads es) ∙ ap (λ l. W ++ l) (passed_bytes ms h₁ h' u.1) ∙ sym (append_assoc W (bytes_written es) (as_list h'))
+passed_bytes [] h h' u = grind (arith, append-nil)
+passed_bytes (m ∷ ms) h h' u = let i = passed_bytes ms (held_in m.state) h' u.1 in grind (arith, append_assoc)
 
 pub passed_until : (front back : List Moment) (m : Moment) (h h' : Option ℕ) → Passed h (front ++ (m ∷ back)) h' → Passed h (front ++ (m ∷ [])) (held_in m.state)
 passed_until [] back m h h' u = (u.0, refl)

@@ -1,8 +1,8 @@
 -- Each enabling leaves an enabled channel, with length, count and counters as it found them. Assumes nothing.
-use Rattle.std.proofs.Common.{◌≡◌, ℕ, Bool, true, false, eqb, ltb, ◌⊎◌, List, [], ◌∷◌, Ok, Err, Result, sym, refl, ap, ◌∙◌, subst, inl, inr}
+use Rattle.std.proofs.Common.{◌≡◌, ℕ, Bool, true, ◌⊎◌, List, [], ◌∷◌, Ok, Err, Result, sym, refl, ap, ◌∙◌, subst, arith}
 use Rattle.control.specs.Firsts.{wr6_of, decoded_first, followers_of}
-use Rattle.control.specs.Followers.{listed, queued}
-use Rattle.control.specs.Tables.{decoded, first_taken}
+use Rattle.control.specs.Followers.{listed}
+use Rattle.control.specs.Tables.{decoded}
 use Rattle.control.specs.declared.decoded.ControlByte.{ControlByte}
 use Rattle.control.specs.declared.decoded.ControlByte.TheVariants as control
 use Rattle.control.specs.declared.decoded.Decoded.{Decoded}
@@ -11,8 +11,6 @@ use Rattle.control.specs.declared.first.Command.TheVariants.{Enable}
 use Rattle.control.specs.declared.first.First.TheVariants.{Wr3, Wr6}
 use Rattle.control.specs.declared.follower.Follower.{Follower}
 use Rattle.control.specs.declared.follower.Follower.TheVariants as due
-use Rattle.control.specs.declared.follower.FollowerByte.{FollowerByte}
-use Rattle.control.specs.declared.follower.FollowerByte.TheVariants.{Mask, Match}
 use Rattle.control.specs.declared.follower.Followers.{Followers}
 use Rattle.control.specs.declared.follower.Followers.TheVariants.{Zero, One}
 use Rattle.registers.specs.declared.chip.Chip.{Chip}
@@ -21,9 +19,9 @@ use Rattle.registers.specs.declared.row.Loan.{Loan}
 use Rattle.registers.specs.declared.row.Loan.TheVariants.{Closed}
 use Rattle.registers.specs.declared.row.Registers.{Registers}
 use Rattle.registers.specs.Calls.{State, write_call, table_call}
-use Rattle.registers.specs.Firsts.{enabled_by, enables, enabling, with_wr3}
+use Rattle.registers.specs.Firsts.{enabling, with_wr3}
 use Rattle.registers.specs.Kept.{Kept, OnlySearch}
-use Rattle.registers.specs.Writes.{follower_set, sequenced, follower_did, decoded_did, write_did, wrote}
+use Rattle.registers.specs.Writes.{decoded_did, write_did, wrote}
 use Rattle.laws.specs.Enabling.{EnablingByte, enable_command, enable_bit_alone, enable_bit_before, EnabledBy, Accepted, Found, SameBlock, EnablingsLeaveFound}
 use Rattle.laws.proofs.Writes.{wrote_kept}
 
@@ -39,12 +37,8 @@ EnabledIf x (Err f) = Unit {0}
 
 -- enabled at once, from registers r with the same block
 module _ (x : Chip) (r : Registers) (l : r.program.length ≡ x.registers.program.length) (k : r.progress ≡ x.registers.progress) where
-  enables_enabled : (none above : Bool) → EnabledIf x (enables none above Zero r x)
-  enables_enabled false false = record { on = refl; block = record { length = l; count = cc; a = cc; b = cc } }
-  enables_enabled _ _ = tt
-
   enabling_enabled : EnabledIf x (enabling Zero r x)
-  enabling_enabled = enables_enabled (eqb r.program.length 0) (ltb r.program.length r.progress.count)
+  enabling_enabled = grind arith
 
 first_says : Followers → ControlByte → Result Decoded DecodeFault
 first_says due c = Ok (record { control = c; due = due })
@@ -59,29 +53,16 @@ command_enabled x = enabling_enabled x x.registers refl refl
 
 wr3_decoded : (b : ℕ) (stop interrupts : Bool) → decoded_first b ≡ Ok (Wr3 stop interrupts true) → followers_of b ≡ [] → decoded Zero b ≡ first_says Zero (control.First (Wr3 stop interrupts true))
 unfolding first_says
-wr3_decoded b stop interrupts e n = ap (first_taken b) e ∙ ap (λ fs. Ok (record { control = control.First (Wr3 stop interrupts true); due = queued fs })) n
+wr3_decoded b stop interrupts e n = grind arith
 
 wr3_enabled : (x : Chip) (stop interrupts : Bool) → EnabledIf x (decoded_did (first_says Zero (control.First (Wr3 stop interrupts true))) x)
 unfolding decoded_did first_says
 wr3_enabled x stop interrupts = enabling_enabled x (with_wr3 stop interrupts x.registers) refl refl
 
-sequenced_on : (e : Bool) (r : Registers) → e ≡ true → sequenced e Zero r ≡ enabled_by Zero r
-sequenced_on true r q = refl
-sequenced_on false r q = cc
-
 module _ (x : Chip) (e : x.registers.sequence.enabling ≡ true) where
-  follower_enabled : (f : FollowerByte) → (follower_set f x.registers).program.length ≡ x.registers.program.length → (follower_set f x.registers).progress ≡ x.registers.progress → Enabled x (follower_did f Zero x)
-  follower_enabled f l k =
-      let q = sequenced_on x.registers.sequence.enabling (follower_set f x.registers) e in
-      record {
-        on = cc;
-        block = record { length = cc; count = cc; a = cc; b = cc };
-      }
-
   last_enabled : (b : ℕ) (f : Follower) → (f ≡ due.Mask) ⊎ (f ≡ due.Match) → EnabledIf x (decoded_did (decoded (One f) b) x)
   unfolding decoded_did
-  last_enabled b f (inl q) = rw q (follower_enabled (Mask b) refl refl)
-  last_enabled b f (inr q) = rw q (follower_enabled (Match b) refl refl)
+  last_enabled b f h = grind arith
 
 decoded_enabled : (b : ℕ) (x : Chip) → Kept x.registers → EnablingByte b x.registers.sequence → EnabledIf x (decoded_did (decoded x.registers.sequence.due b) x)
 decoded_enabled b x k (enable_command d e) =
@@ -96,8 +77,7 @@ decoded_enabled b x k (enable_bit_before f d e) =
 
 write_closed : (l : Loan) (b : ℕ) (x : Chip) → l ≡ Closed → write_did l b x ≡ decoded_did (decoded x.registers.sequence.due b) x
 unfolding write_did
-write_closed Closed b x n = refl
-write_closed _ b x n = cc
+write_closed l b x n = grind arith
 
 byte_enabled : (b : ℕ) (x y : Chip) → Kept x.registers → EnabledBy b x y → Enabled x y
 unfolding wrote
@@ -106,7 +86,7 @@ byte_enabled b x y k e =
     subst (EnabledIf x) e.accepted (subst (EnabledIf x) (sym (write_closed x.registers.loan b x w.before)) (decoded_enabled b x k e.byte))
 
 pub accepted_kept : (bs : List ℕ) (x y : Chip) → Kept x.registers → Accepted bs x y → Kept y.registers
-accepted_kept [] x y k a = rw a k
+accepted_kept [] x y k a = grind arith
 accepted_kept (b ∷ bs) x y k a = accepted_kept bs a.0 y (wrote_kept b x a.0 k a.1).kept a.2
 
 byte_found : (b : ℕ) (x : Chip) (t : State) → Kept x.registers → EnabledBy b x t.chip → Found t × SameBlock x t.chip

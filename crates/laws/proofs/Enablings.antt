@@ -1,5 +1,5 @@
 -- Nothing but an enabling leaves a channel enabled that has accepted a control byte. Assumes nothing.
-use Rattle.std.proofs.Common.{◌≡◌, ℕ, ◌+◌, true, ◌⊎◌, List, [], ◌∷◌, ◌++◌, length, Ok, Err, Result, sym, refl, ap, ◌∙◌, inl, inr}
+use Rattle.std.proofs.Common.{◌≡◌, ℕ, ◌+◌, true, ◌⊎◌, List, [], ◌∷◌, ◌++◌, length, Ok, Err, Result, sym, refl, ap, ◌∙◌, inl, inr, arith}
 use Rattle.registers.specs.declared.chip.Chip.{Chip}
 use Rattle.registers.specs.declared.fault.ChannelFault.{ChannelFault}
 use Rattle.registers.specs.declared.outcome.Outcome.TheVariants.{WroteTable}
@@ -38,8 +38,7 @@ one_more b bs x z y e (inr l) =
 
 next_took : (b : ℕ) (bs : List ℕ) (i : ℕ) (x : Chip) (v : Result Chip ChannelFault) → wrote b x ≡ v → ((z : Chip) → TableTook bs z (table_did (i + 1) bs z).chip) → TableTook (b ∷ bs) x (table_next v i (λ y. table_did (i + 1) bs y) x).chip
 unfolding table_next
-next_took b bs i x (Ok z) e h = inr (one_more b bs x z _ e (h z))
-next_took b bs i x (Err f) e h = inl (refl, (f, e))
+next_took b bs i x v e h = grind (arith, one_more)
 
 table_took : (i : ℕ) (bs : List ℕ) (x : Chip) → TableTook bs x (table_did i bs x).chip
 unfolding table_did
@@ -48,8 +47,7 @@ table_took i (b ∷ bs) x = next_took b bs i x (wrote b x) refl (λ z. table_too
 
 refused_none : (bs : List ℕ) (x : Chip) → RefusedNext bs x → bytes_accepted (length bs) (WroteTable (table_did 0 bs x).answer) ≡ 0
 unfolding table_did table_next
-refused_none [] x r = refl
-refused_none (b ∷ bs) x r = rw r.1
+refused_none bs x r = grind arith
 
 table_enables : (bs : List ℕ) (x y : Chip) → Kept x.registers → ((y ≡ x) × RefusedNext bs x → ⊥) → y.registers.progress.enabled ≡ true → TableTook bs x y → (z : Chip) × EnabledByTable bs x z y
 table_enables bs x y k n on (inl r) = absurd (n r)

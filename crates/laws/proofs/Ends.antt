@@ -1,6 +1,5 @@
 -- Nothing follows an end without auto restart, nor a stop. Assumes nothing.
 use Rattle.std.proofs.Common.{◌≡◌, Bool, true, false, List, [], ◌∷◌, ◌++◌, sym, refl, ap, ◌∙◌, arith}
-use Rattle.std.proofs.lemmas.Bool.{false≢true}
 use Rattle.registers.specs.declared.answer.Mark.{Mark}
 use Rattle.registers.specs.declared.answer.Move.{Move}
 use Rattle.registers.specs.declared.manner.Manner.{Manner}
@@ -27,8 +26,8 @@ module _ {F : Type 0} {f : Bool} {n : Manner} {p : Program} where
   -- no cycle is accepted of a disabled channel
   trail_off : {b b' : Course} {ms : List Moment} → b.progress.enabled ≡ false → Trail F f n p b ms b' → events_in ms ≡ []
   trail_off z here = refl
-  trail_off z (pause h t) = absurd (false≢true (sym z ∙ h.on))
-  trail_off z (go h t) = absurd (false≢true (sym z ∙ h.on))
+  trail_off z (pause h t) = cc
+  trail_off z (go h t) = cc
   trail_off z (relatch x l t) = trail_off z t
 
   trail_ends : {b b' : Course} {ms : List Moment} (front back : List Event) (e : Event) → Trail F f n p b ms b' → events_in ms ≡ front ++ (e ∷ back) → Disables p.restart e.answer.mark → back ≡ []

@@ -1,6 +1,5 @@
 -- Where the bytes of a block are read and written, and when it is over. Assumes nothing.
-use Rattle.std.proofs.Common.{◌≡◌, ℕ, zero, suc, ◌+◌, ◌*◌, ◌<◌, ◌≤◌, Bool, true, false, ◌⊎◌, List, [], ◌∷◌, ◌++◌, length, Some, None, Option, sym, refl, ap, ◌∙◌, subst, inl, inr, zero-add, arith}
-use Rattle.std.proofs.lemmas.Bool.{false≢true}
+use Rattle.std.proofs.Common.{◌≡◌, ℕ, suc, ◌+◌, ◌*◌, ◌<◌, ◌≤◌, Bool, true, false, ◌⊎◌, List, [], ◌∷◌, ◌++◌, length, sym, refl, ap, ◌∙◌, subst, inl, inr, zero-add, arith}
 use Rattle.registers.specs.declared.answer.Kind.{Kind}
 use Rattle.registers.specs.declared.answer.Kind.TheVariants.{Read, Write, Idle, Release}
 use Rattle.registers.specs.declared.answer.Move.{Move}
@@ -13,9 +12,9 @@ use Rattle.laws.specs.Blocks.{ComesAfter, last_byte, was_active, ReadsHaveTheirP
 use Rattle.laws.specs.Enabling.{Found, Uncontrolled}
 use Rattle.laws.specs.Events.{move_of, one_more_if, many, reads, writes, idles, releases, finishes_a_byte, is_final, is_idle, is_release}
 use Rattle.laws.specs.Moments.{Moment, moments, events_in}
-use Rattle.laws.proofs.Trails.{Course, Pauses, Trail, here, pause, go, relatch, step_of}
+use Rattle.laws.proofs.Trails.{Course, Trail, here, pause, go, relatch, step_of}
 use Rattle.laws.proofs.Calls.{uncontrolled_walk, moments_have_the_events}
-use Rattle.laws.proofs.Inside.{Inside, Past, Placed, Counted, size, last_of, inside_onward, past_onward, one_of_two}
+use Rattle.laws.proofs.Inside.{Inside, Past, Placed, Counted, last_of, inside_onward, past_onward, one_of_two}
 
 -- EVERY MOVE OF A TRAIL IN ITS PLACE
 
@@ -34,24 +33,14 @@ spot_onward : (g : Registers) (r w i : ℕ) (b : Course) → Spot g r w i b.prog
 spot_onward g r w i b (inl a) on n = let h = inside_onward g r w i b.progress b.contents a on in (h.0, elim h.1 [ inl x ↦ inl x | inr x ↦ inr x.0 ])
 spot_onward g r w i b (inr a) on n = let h = past_onward g r w i b.progress b.contents a on n in (h.0, inr h.1)
 
--- a pause is nowhere, and moves no count
-pause_placed : (g : Registers) (r w i : ℕ) (m : Move) (es : List Event) → Pauses m → AllPlaced g r w i es → PlacedThen g r w i m es
-unfolding PlacedThen
-pause_placed g r w i m es (inl e) h =
-    rw e (record { reads = λ z. absurd (false≢true (ap is_read z)); written = λ z. absurd (false≢true (ap is_write z)); ends = λ z. absurd (false≢true z) }, h)
-pause_placed g r w i m es (inr e) h =
-    rw e (record { reads = λ z. absurd (false≢true (ap is_read z)); written = λ z. absurd (false≢true (ap is_write z)); ends = λ z. absurd (false≢true z) }, h)
-
-step_placed : (g : Registers) (r w i : ℕ) (m m' : Move) (es : List Event) → m ≡ m' → PlacedThen g r w i m' es → PlacedThen g r w i m es
-step_placed g r w i m m' es e h = rw e h
-
 trail_placed : {F : Type 0} {f : Bool} {n : Manner} (g : Registers) {b b' : Course} {ms : List Moment} (r w i : ℕ) → Spot g r w i b.progress → Trail F f n g.program b ms b' → AllPlaced g r w i (events_in ms)
 unfolding PlacedThen
 trail_placed g r w i a here = tt
-trail_placed g r w i a (pause {m = m} {ms = ms} h t) = pause_placed g r w i (move_of m.event) (events_in ms) h.is (trail_placed g r w i a t)
+trail_placed g r w i a (pause {m = m} {ms = ms} h t) = grind (arith, trail_placed g r w i a t)
 trail_placed g r w i a (go {b = b} {m = m} {ms = ms} h t) =
     let x = spot_onward g r w i b a h.on h.in_block in
-    step_placed g r w i (move_of m.event) (step_of g.program b).move (events_in ms) h.is (x.0, trail_placed g _ _ _ x.1 t)
+    let y = trail_placed g _ _ _ x.1 t in
+    grind arith
 trail_placed g r w i a (relatch f l t) = trail_placed g r w i a t
 
 -- THE COUNTS BEFORE AN EVENT
@@ -61,12 +50,8 @@ counted_on f n [] = n
 counted_on f n (e ∷ es) = counted_on f (one_more_if (f e) n) es
 
 counted_many : (f : Event → Bool) (n : ℕ) (es : List Event) → counted_on f n es ≡ n + many f es
-counted_many f n [] = omega arith
-counted_many f n (e ∷ es) = counted_many f (one_more_if (f e) n) es ∙ one_more (f e) (many f es)
-  where
-    one_more : (t : Bool) (m : ℕ) → one_more_if t n + m ≡ n + one_more_if t m
-    one_more true m = omega arith
-    one_more false m = refl
+counted_many f n [] = grind arith
+counted_many f n (e ∷ es) = grind (arith, counted_many f (one_more_if (f e) n) es)
 
 before : (f : Event → Bool) (es : List Event) → counted_on f 0 es ≡ many f es
 before f es = counted_many f 0 es ∙ zero-add (many f es)
@@ -76,7 +61,7 @@ placed_at g r w i [] e back h = h.0
 placed_at g r w i (x ∷ front) e back h = placed_at g (one_more_if (reads x) r) (one_more_if (writes x) w) (one_more_if (finishes_a_byte x) i) front e back h.1
 
 placed_after : (g : Registers) (es front : List Event) (e : Event) → AllPlaced g 0 0 0 es → ComesAfter es front e → Placed g (many reads front) (many writes front) (many finishes_a_byte front) (move_of e)
-placed_after g es front e h a = rw (before reads front, before writes front, before finishes_a_byte front) at (placed_at g 0 0 0 front e a.0 (rw a.1 at h))
+placed_after g es front e h a = let p = placed_at g 0 0 0 front e a.0 in grind (arith, before)
 
 -- HOW LONG IT TAKES
 
@@ -91,14 +76,11 @@ record Reached (g : Registers) (n r w : ℕ) (k : Progress) : Type 0 where
   inside : Inside g r' w' i' k
   enough : n + (r + w) ≤ r' + w'
 
-most_one : (t : Bool) (n : ℕ) → one_more_if t n ≤ suc n
-most_one t n = grind arith
-
 none_of : (t : Bool) (n : ℕ) → one_more_if t n ≡ 0 → (t ≡ false) × (n ≡ 0)
 none_of t n z = grind arith
 
 reached_on : (g : Registers) (t : Bool) (n r w r₁ w₁ : ℕ) (k : Progress) → r₁ + w₁ ≡ suc (r + w) → Reached g n r₁ w₁ k → Reached g (one_more_if t n) r w k
-reached_on g t n r w r₁ w₁ k e x = record { r' = x.r'; w' = x.w'; i' = x.i'; inside = x.inside; enough = omega (arith, x.enough, most_one t n) }
+reached_on g t n r w r₁ w₁ k e x = grind arith
 
 still : {A B : Type 0} (t : Bool) → t ≡ false → A ⊎ (B × (t ≡ true)) → A
 still t e h = grind arith
@@ -120,36 +102,15 @@ module _ (s : State) where
   trail_reached r w i a (relatch f l t) z = trail_reached r w i a t z
 
 most : (g : Registers) (n : ℕ) (k : Progress) → Reached g n 0 0 k → n < 2 * (last_of g + 1)
-most g n k x =
-    let a = x.inside in
-    let z : size k.held ≤ 1 = at_most_one k.held in
-    omega (arith, a.count, a.in_block, a.all_read, a.few, x.enough)
-  where
-    at_most_one : (o : Option ℕ) → size o ≤ 1
-    at_most_one None = omega arith
-    at_most_one (Some v) = omega arith
+most g n k x = grind arith
 
 over : (s : State) (k : Progress) (es : List Event) (n : ℕ) → many is_final es ≡ n → (many is_final es ≡ 0 → Reached s.chip.registers (many (was_active s) es) 0 0 k) → 2 * (last_byte s + 1) ≤ many (was_active s) es → 0 < n
-over s k es zero e f h = absurd (omega (arith, most s.chip.registers (many (was_active s) es) k (f e)))
-over s k es (suc n) e f h = omega arith
+over s k es n e f h = grind (arith, most)
 
 -- THE LAWS
 
 start : (s : State) → Found s → Inside s.chip.registers 0 0 0 s.chip.registers.progress
-start s f =
-    let k = s.chip.registers.progress in
-    let e : k.held ≡ None = rw f.no_loan_open at f.kept.holds in
-    let z : size k.held ≡ 0 = ap size e in
-    record {
-      count = omega arith;
-      source = refl;
-      destination = refl;
-      in_block = (f.kept.block f.enabled).count;
-      all_read = omega arith;
-      few = omega arith;
-      all_written = inr refl;
-      searching = λ _. e;
-    }
+start s f = grind arith
 
 all_placed : (s : State) (calls : List Call) → Found s → Uncontrolled calls s → AllPlaced s.chip.registers 0 0 0 (events calls s)
 all_placed s cs f u =

@@ -1,12 +1,9 @@
 -- Every cycle is a byte's read or write, or a pause: the trail of a list of calls. Assumes nothing.
-use Rattle.std.proofs.Common.{◌≡◌, ℕ, ◌≤◌, Bool, true, false, cond, ◌⊎◌, List, [], ◌∷◌, ◌++◌, Some, None, Option, sym, refl, ◌∙◌, inl, inr, arith}
-use Rattle.std.proofs.lemmas.Bool.{true≢false}
+use Rattle.std.proofs.Common.{◌≡◌, ℕ, ◌≤◌, Bool, true, false, ◌⊎◌, List, [], ◌∷◌, ◌++◌, None, Option, refl, ◌∙◌, arith}
 use Rattle.control.specs.declared.fields.Mode.{Mode}
-use Rattle.control.specs.declared.fields.Mode.TheVariants as mode
 use Rattle.control.specs.declared.fields.Space.TheVariants.{Memory}
 use Rattle.registers.specs.declared.answer.Kind.{Kind}
 use Rattle.registers.specs.declared.answer.Kind.TheVariants.{Idle, Release}
-use Rattle.registers.specs.declared.answer.Mark.{Mark}
 use Rattle.registers.specs.declared.answer.Mark.TheVariants as mark
 use Rattle.registers.specs.declared.answer.Move.{Move}
 use Rattle.registers.specs.declared.input.CycleInput.{CycleInput}
@@ -20,9 +17,8 @@ use Rattle.registers.specs.declared.row.Registers.{Registers}
 use Rattle.registers.specs.Bytes.{Step, step, latched}
 use Rattle.registers.specs.Calls.{State, cycled_state, state_on, state_after, state_after_all}
 use Rattle.registers.specs.Contents.{Contents}
-use Rattle.registers.specs.Cycles.{Cycled, is_active, loan_after, pause_kind, loan_paused, worked, paused, cycled_on, cycled}
+use Rattle.registers.specs.Cycles.{Cycled, is_active, loan_after, loan_paused, worked, paused, cycled_on, cycled}
 use Rattle.registers.specs.Kept.{Holds}
-use Rattle.registers.specs.Numbers.{finishes, final}
 use Rattle.laws.specs.Events.{move_of}
 use Rattle.laws.specs.Moments.{Moment, moment_on, moment_of, moments_of}
 use Rattle.laws.specs.Carried.{KeptIn}
@@ -94,7 +90,7 @@ pub record Walk (F : Type 0) (s : State) (ms : List Moment) (s' : State) : Type 
   pub readout : (F → ⊥) → s'.chip.readout ≡ s.chip.readout
 
 pub stay : {F : Type 0} {s : State} → KeptIn s → Walk F s [] s
-stay h = record { trail = here; kept = h; program = refl; manner = refl; forcing = refl; sequence = refl; service = λ _. refl; readout = λ _. refl }
+stay h = search here
 
 pub walk_then : {F : Type 0} {s s' s'' : State} {ms ns : List Moment} → Walk F s ms s' → Walk F s' ns s'' → Walk F s (ms ++ ns) s''
 walk_then w u =
@@ -111,17 +107,8 @@ walk_then w u =
 
 -- A CYCLE OF THE MASTER
 
-live_unless : (t : Bool) (k : Progress) → (t ≡ true → k.held ≡ None) → (t ≡ false → k.enabled ≡ true) → Holds (cond t Released Master) k
-live_unless true k h u = h refl
-live_unless false k h u = u refl
-
-final_finishes : (m : Mark) → (final m ≡ true → finishes m ≡ true) × (finishes m ≡ false → final m ≡ false)
-final_finishes m = grind arith
-
 holds_after : (d : Mode) (p : Program) (h : Step) → Left p h → Holds (loan_after d h.move.mark) h.progress
-holds_after mode.Byte p h l = live_unless (finishes h.move.mark) h.progress l.empty (λ z. l.live ((final_finishes h.move.mark).1 z))
-holds_after mode.Continuous p h l = live_unless (final h.move.mark) h.progress (λ z. l.empty ((final_finishes h.move.mark).0 z)) l.live
-holds_after mode.Burst p h l = live_unless (final h.move.mark) h.progress (λ z. l.empty ((final_finishes h.move.mark).0 z)) l.live
+holds_after d p h l = grind arith
 
 abbrev moment_with : CycleInput → Cycled → State → List Moment
 moment_with i y s = record { event = record { input = i; answer = y.answer }; state = cycled_state y s } ∷ []
@@ -133,63 +120,17 @@ module _ (F : Type 0) (i : CycleInput) (s : State) (on : s.chip.registers.progre
   abbrev CycleWalk : Cycled → Type 0
   CycleWalk y = Walk F s (moment_with i y s) (cycled_state y s)
 
-  -- the master is enabled, so no enabling waits
-  not_waiting : {A : Type 0} → r.sequence.enabling ≡ true → A
-  not_waiting z = absurd (true≢false (sym on ∙ (h.enabling z).disabled))
-
   works : CycleWalk (worked i.waits r s.contents)
-  works =
-      let l = step_left r.program r.progress s.contents on (h.block on).count in
-      record {
-        trail = go (record { on = on; in_block = (h.block on).count; is = refl; after = refl }) here;
-        kept =
-            record {
-              holds = holds_after r.manner.mode r.program (step_of r.program (course s)) l;
-              stopping = l.stopping;
-              searching = l.searching;
-              block = λ z. record { some_length = (h.block on).some_length; count = l.in_block z };
-              enabling = λ z. not_waiting z;
-            };
-        program = refl;
-        manner = refl;
-        forcing = refl;
-        sequence = refl;
-        service = λ _. refl;
-        readout = λ _. refl;
-      }
+  works = let l = step_left r.program r.progress s.contents on (h.block on).count in let q = holds_after r.manner.mode r.program (step_of r.program (course s)) l in grind (arith, go, here)
 
   holds_paused : (d : Mode) → r.progress.held ≡ None → Holds (loan_paused d) r.progress
   holds_paused d e = grind arith
 
-  is_pause : (d : Mode) → Pauses (pause_move (pause_kind d))
-  is_pause mode.Byte = inr refl
-  is_pause mode.Burst = inr refl
-  is_pause mode.Continuous = inl refl
-
   pauses : r.progress.held ≡ None → is_active r.manner s.chip.forcing.forced i.ready ≡ false → CycleWalk (paused r s.contents)
-  pauses e a =
-      record {
-        trail = pause (record { on = on; empty = e; inactive = a; is = is_pause r.manner.mode; after = refl }) here;
-        kept =
-            record {
-              holds = holds_paused r.manner.mode e;
-              stopping = h.stopping;
-              searching = h.searching;
-              block = λ z. record { some_length = (h.block z).some_length; count = (h.block z).count };
-              enabling = λ z. not_waiting z;
-            };
-        program = refl;
-        manner = refl;
-        forcing = refl;
-        sequence = refl;
-        service = λ _. refl;
-        readout = λ _. refl;
-      }
+  pauses e a = let q = holds_paused r.manner.mode e in grind (arith, pause, here)
 
   by_held : (o : Option ℕ) (a : Bool) → r.progress.held ≡ o → is_active r.manner s.chip.forcing.forced i.ready ≡ a → CycleWalk (cycled_on o a i.waits r s.contents)
-  by_held (Some v) a e q = works
-  by_held None true e q = works
-  by_held None false e q = pauses e q
+  by_held o a e q = grind (arith, works, pauses)
 
   cycles : CycleWalk (cycled s.chip.forcing.forced i r s.contents)
   cycles = by_held r.progress.held (is_active r.manner s.chip.forcing.forced i.ready) refl refl

@@ -1,5 +1,5 @@
 -- All calls, control bytes too: every channel stays kept, the bytes are carried, the spaces hold what was written. Assumes nothing.
-use Rattle.std.proofs.Common.{◌≡◌, ℕ, ◌+◌, List, [], ◌∷◌, ◌++◌, None, Ok, Err, Result, sym, refl, ◌∙◌, inr}
+use Rattle.std.proofs.Common.{◌≡◌, ℕ, ◌+◌, List, [], ◌∷◌, ◌++◌, None, Ok, Err, Result, sym, refl, ◌∙◌, inr, arith}
 use Rattle.control.specs.declared.fault.TableFault.{TableFault}
 use Rattle.registers.specs.declared.chip.Chip.{Chip}
 use Rattle.registers.specs.declared.fault.ChannelFault.{ChannelFault}
@@ -26,16 +26,16 @@ whole : {F : Type 0} {s s' : State} {ms : List Moment} → Walk F s ms s' → Wh
 whole w = record { kept = w.kept; made = trail_made w.trail; passed = trail_passed w.trail }
 
 whole_none : {s : State} → KeptIn s → Whole s [] s
-whole_none h = record { kept = h; made = refl; passed = refl }
+whole_none h = grind arith
 
 whole_then : {s s' s'' : State} {ms ns : List Moment} → Whole s ms s' → Whole s' ns s'' → Whole s (ms ++ ns) s''
-whole_then {ms = ms} {ns = ns} k l = record { kept = l.kept; made = made_then ms ns _ _ _ k.made l.made; passed = passed_then ms ns _ _ _ k.passed l.passed }
+whole_then k l = grind (arith, made_then, passed_then)
 
 -- CONTROL BYTES
 
 -- with no loan open no byte is held
 empty : (r : Registers) → r.loan ≡ Closed → Kept r → r.progress.held ≡ None
-empty r n k = rw n at k.holds
+empty r n k = grind arith
 
 byte_whole : (b : ℕ) (y : Chip) (s : State) → KeptIn s → wrote b s.chip ≡ Ok y → Whole s [] (at_chip y s)
 byte_whole b y s h z =

@@ -1,6 +1,6 @@
 -- An accepted control byte leaves a kept channel with no loan open, and an enabled one only if it is an enabling. Assumes nothing.
-use Rattle.std.proofs.Common.{◌≡◌, ℕ, Bool, true, false, eqb, ltb, ◌⊎◌, Some, None, Ok, Err, Result, sym, refl, ap, ◌∙◌, subst, inl, inr, arith}
-use Rattle.std.proofs.lemmas.Bool.{eqb-false, ltb-false, false≢true}
+use Rattle.std.proofs.Common.{◌≡◌, ℕ, Bool, true, false, ◌⊎◌, Some, None, Ok, Err, Result, sym, refl, ap, ◌∙◌, subst, inl, inr, arith}
+use Rattle.std.proofs.lemmas.Bool.{false≢true}
 use Rattle.control.specs.Firsts.{decoded_first, followers_of}
 use Rattle.control.specs.Followers.{listed, queued, decoded_follower}
 use Rattle.control.specs.Tables.{decoded, taken, first_taken, follower_taken, due_after}
@@ -20,17 +20,15 @@ use Rattle.registers.specs.declared.fault.ChannelFault.{ChannelFault}
 use Rattle.registers.specs.declared.row.Loan.{Loan}
 use Rattle.registers.specs.declared.row.Loan.TheVariants.{Closed}
 use Rattle.registers.specs.declared.row.Registers.{Registers}
-use Rattle.registers.specs.Bytes.{disabled}
-use Rattle.registers.specs.Chips.{at_progress, with_sequence}
-use Rattle.registers.specs.Firsts.{enabled_by, enables, enabling, starts_read_out, command_did, first_did, with_wr3}
+use Rattle.registers.specs.Firsts.{enabling, starts_read_out, command_did, first_did}
 use Rattle.registers.specs.Kept.{Kept, InBlock, OnlySearch}
-use Rattle.registers.specs.Writes.{follower_set, sequenced, follower_did, decoded_did, write_did, wrote}
+use Rattle.registers.specs.Writes.{follower_set, follower_did, decoded_did, write_did, wrote}
 use Rattle.laws.specs.Carried.{PowerOnIsKept}
 use Rattle.laws.specs.Enabling.{EnablingByte, enable_command, enable_bit_alone, enable_bit_before}
 use Rattle.laws.proofs.Decoding.{Fitting, FittingResult, first_fits, none_queued}
 
 pub power_on_kept : PowerOnIsKept
-power_on_kept = record { holds = refl; stopping = λ _. refl; searching = λ _. refl; block = λ z. absurd (false≢true z); enabling = λ z. absurd (false≢true z) }
+power_on_kept = grind arith
 
 -- kept, with no loan open, and enabled only by A
 record Good (A : Type 0) (r : Registers) : Type 0 where
@@ -43,62 +41,17 @@ GoodIfAccepted A (Ok y) = Good A y.registers
 GoodIfAccepted A (Err f) = Unit {0}
 
 then_by : {A B : Type 0} (v : Result Chip ChannelFault) → (A → B) → GoodIfAccepted A v → GoodIfAccepted B v
-then_by (Ok y) f g = record { kept = g.kept; closed = g.closed; only_by = λ z. f (g.only_by z) }
-then_by (Err e) f g = tt
+then_by v f g = grind arith
 
 -- disabled, with no enabling that waits
 calm : {A : Type 0} (r : Registers) → r.progress.held ≡ None → r.progress.stopping ≡ false → r.progress.enabled ≡ false → r.sequence.enabling ≡ false → r.loan ≡ Closed → Good A r
-calm r h u off q n =
-    record {
-      kept =
-          record {
-            holds = rw n h;
-            stopping = λ _. u;
-            searching = λ _. h;
-            block = λ z. cc;
-            enabling = λ z. cc;
-          };
-      closed = n;
-      only_by = λ z. cc;
-    }
+calm r h u off q n = grind arith
 
 -- ENABLING, AT ONCE OR BY THE GROUP'S LAST BYTE
 
 module _ (r : Registers) (n : r.loan ≡ Closed) (h : r.progress.held ≡ None) (u : r.progress.stopping ≡ false) where
-  waits : {A : Type 0} (due : Followers) → OnlySearch (listed due) → InBlock r → Good A (with_sequence (record { due = due; enabling = true }) (at_progress (disabled r.progress) r))
-  waits due o b =
-      record {
-        kept =
-            record {
-              holds = rw n h;
-              stopping = λ _. u;
-              searching = λ _. h;
-              block = λ z. absurd (false≢true z);
-              enabling = λ _. record { disabled = refl; followers = o; block = record { some_length = b.some_length; count = b.count } };
-            };
-        closed = n;
-        only_by = λ z. absurd (false≢true z);
-      }
-
-  enabled_by_good : (due : Followers) → OnlySearch (listed due) → InBlock r → Good (due ≡ Zero) (enabled_by due r)
-  enabled_by_good Zero o b =
-      record {
-        kept = record { holds = rw n h; stopping = λ _. u; searching = λ _. h; block = λ _. record { some_length = b.some_length; count = b.count }; enabling = λ z. absurd (false≢true z) };
-        closed = n;
-        only_by = λ _. refl;
-      }
-  enabled_by_good due o b = waits due o b
-
-  enables_good : (none above : Bool) (due : Followers) (x : Chip) → OnlySearch (listed due) → eqb r.program.length 0 ≡ none → ltb r.program.length r.progress.count ≡ above → GoodIfAccepted (due ≡ Zero) (enables none above due r x)
-  enables_good true above due x o p q = tt
-  enables_good false true due x o p q = tt
-  enables_good false false due x o p q =
-      let a = eqb-false r.program.length 0 p in
-      let c = ltb-false r.program.length r.progress.count q in
-      enabled_by_good due o (record { some_length = omega arith; count = omega arith })
-
   enabling_good : (due : Followers) (x : Chip) → OnlySearch (listed due) → GoodIfAccepted (due ≡ Zero) (enabling due r x)
-  enabling_good due x o = enables_good _ _ due x o refl refl
+  enabling_good due x o = grind arith
 
 -- A FIRST BYTE
 
@@ -110,8 +63,7 @@ EnablesAtOnce _ due = ⊥
 
 module _ (x : Chip) (n : x.registers.loan ≡ Closed) (h : x.registers.progress.held ≡ None) (u : x.registers.progress.stopping ≡ false) where
   read_out_good : (A : Type 0) (none : Bool) (marks : ℕ) (due : Followers) → GoodIfAccepted A (starts_read_out none marks due x)
-  read_out_good A true marks due = calm _ h u refl refl n
-  read_out_good A false marks due = tt
+  read_out_good A none marks due = grind arith
 
   command_good : (c : Command) (due : Followers) → (c ≡ command.Enable → OnlySearch (listed due)) → GoodIfAccepted (c ≡ command.Enable) (command_did c due x)
   command_good command.PowerOn due o = record { kept = power_on_kept; closed = refl; only_by = λ z. cc }
@@ -121,9 +73,7 @@ module _ (x : Chip) (n : x.registers.loan ≡ Closed) (h : x.registers.progress.
   command_good _ due o = calm _ h u refl refl n
 
   first_good : (b : ℕ) (f : First) (due : Followers) → Fitting b f due → GoodIfAccepted (EnablesAtOnce f due) (first_did f due x)
-  first_good b (first.Wr3 stop interrupts true) due o = then_by _ (λ e. (refl, e)) (enabling_good (with_wr3 stop interrupts x.registers) n h u due x o)
-  first_good b (first.Wr6 c) due o = command_good c due (λ e. (o e).1)
-  first_good b _ due o = calm _ h u refl refl n
+  first_good b f due o = grind (arith, enabling_good, command_good, calm)
 
   enables_first : (b : ℕ) (f : First) → x.registers.sequence.due ≡ Zero → decoded_first b ≡ Ok f → Fitting b f (queued (followers_of b)) → EnablesAtOnce f (queued (followers_of b)) → EnablingByte b x.registers.sequence
   enables_first b (first.Wr3 stop interrupts enable) q e o a = enable_bit_alone stop interrupts q (e ∙ ap (λ t. Ok (first.Wr3 stop interrupts t)) a.0) (none_queued (followers_of b) a.1)
@@ -139,12 +89,7 @@ module _ (x : Chip) (n : x.registers.loan ≡ Closed) (h : x.registers.progress.
 
 -- a follower changes neither the progress nor the loan
 follower_keeps : (f : FollowerByte) (r : Registers) → ((follower_set f r).progress ≡ r.progress) × ((follower_set f r).loan ≡ r.loan)
-follower_keeps (follower.ALow b) r = (refl, refl)
-follower_keeps _ r = (refl, refl)
-
-sequenced_good : (e : Bool) (due : Followers) (r : Registers) → r.loan ≡ Closed → r.progress.held ≡ None → r.progress.stopping ≡ false → (e ≡ true → OnlySearch (listed due) × InBlock r) → Good ((e ≡ true) × (due ≡ Zero)) (sequenced e due r)
-sequenced_good true due r n h u w = let g = enabled_by_good r n h u due (w refl).0 (w refl).1 in record { kept = g.kept; closed = g.closed; only_by = λ z. (refl, g.only_by z) }
-sequenced_good false due r n h u w = calm _ h u refl refl n
+follower_keeps f r = grind arith
 
 module _ (x : Chip) (n : x.registers.loan ≡ Closed) (h : x.registers.progress.held ≡ None) (u : x.registers.progress.stopping ≡ false) where
   abbrev waiting : Bool
@@ -155,9 +100,7 @@ module _ (x : Chip) (n : x.registers.loan ≡ Closed) (h : x.registers.progress.
   IsLast due = (waiting ≡ true) × (due ≡ Zero)
 
   follower_good : (f : FollowerByte) (due : Followers) → (waiting ≡ true → OnlySearch (listed due) × InBlock (follower_set f x.registers)) → Good (IsLast due) (follower_did f due x).registers
-  follower_good f due w =
-      let k = follower_keeps f x.registers in
-      sequenced_good waiting due (follower_set f x.registers) (k.1 ∙ n) (rw k.0 h) (rw k.0 u) w
+  follower_good f due w = grind (arith, follower_keeps)
 
   -- where no enabling waits, whatever the follower
   plain_good : (A : Type 0) (due : Followers) (v : Result FollowerByte DecodeFault) → waiting ≡ false → GoodIfAccepted A (decoded_did (follower_taken due v) x)
@@ -200,8 +143,7 @@ pub record Wrote (b : ℕ) (x y : Chip) : Type 0 where
 
 closed_before : (l : Loan) (b : ℕ) (x y : Chip) → write_did l b x ≡ Ok y → l ≡ Closed
 unfolding write_did
-closed_before Closed b x y z = refl
-closed_before _ b x y z = cc
+closed_before l b x y z = grind arith
 
 pub wrote_kept : (b : ℕ) (x y : Chip) → Kept x.registers → wrote b x ≡ Ok y → Wrote b x y
 unfolding wrote
