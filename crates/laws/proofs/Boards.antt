@@ -5,16 +5,16 @@ use Rattle.registers.specs.declared.manner.Manner.{Manner}
 use Rattle.registers.specs.declared.program.Program.{Program}
 use Rattle.registers.specs.declared.progress.Progress.{Progress}
 use Rattle.registers.specs.Bytes.{step}
-use Rattle.registers.specs.Calls.{state_at_end}
+use Rattle.registers.specs.Calls.{events, state_at_end}
 use Rattle.registers.specs.Contents.{Contents, SameContents}
 use Rattle.registers.specs.Numbers.{final}
 use Rattle.laws.specs.Boards.{move_if, moves, then_unless, block, InRange, WhatWasFoundDecides, BoardsEndAlike}
 use Rattle.laws.specs.Events.{move_of, one_more_if, many, is_final}
 use Rattle.laws.specs.Moments.{Moment, moments, events_in}
 use Rattle.laws.proofs.Steps.{step_off}
-use Rattle.laws.proofs.Trails.{Course, course, Pauses, Trail, here, pause, go, relatch, step_of, next}
-use Rattle.laws.proofs.Calls.{uncontrolled_walk, bus_walk, moments_have_the_events}
-use Rattle.laws.proofs.Alike.{StepsAlike, step_alike, latched_alike}
+use Rattle.laws.proofs.Trails.{Course, course, Trail, here, pause, go, relatch, step_of, next}
+use Rattle.laws.proofs.Calls.{uncontrolled_walk, bus_uncontrolled, bus_walk, moments_have_the_events}
+use Rattle.laws.proofs.Alike.{StepsAlike, step_alike}
 
 -- THE MOVES OF A TRAIL
 
@@ -28,14 +28,11 @@ finals (m ∷ ms) = one_more_if (final m.mark) (finals ms)
 step_moves : (p : Program) (b : Course) (m : Move) (ms : List Move) → m ≡ (step_of p b).move → move_if m.kind m ++ ms ≡ m ∷ ms
 step_moves p b m ms e = grind arith
 
-pause_moves : (m : Move) (ms : List Move) → Pauses m → (move_if m.kind m ++ ms ≡ ms) × (final m.mark ≡ false)
-pause_moves m ms h = grind arith
-
 -- an end or stop is seen in the reads and writes
 trail_finals : {F : Type 0} {f : Bool} {n : Manner} {p : Program} {b b' : Course} {ms : List Moment} → Trail F f n p b ms b' → many is_final (events_in ms) ≡ finals (moves_in ms)
 trail_finals here = refl
-trail_finals (pause {m = m} {ms = ms} h t) = grind (arith, pause_moves, trail_finals t)
-trail_finals {p = p} (go {b = b} {m = m} {ms = ms} h t) = grind (arith, step_moves, trail_finals t)
+trail_finals (pause h t) = grind (arith, trail_finals t)
+trail_finals (go h t) = grind (arith, step_moves, trail_finals t)
 trail_finals (relatch f l t) = trail_finals t
 
 -- WHATEVER THE CALLS
@@ -47,8 +44,8 @@ Line p k c (m ∷ ms) = (m ≡ (step p k c).move) × Line p (step p k c).progres
 
 trail_line : {F : Type 0} {f : Bool} {n : Manner} {p : Program} {b b' : Course} {ms : List Moment} → Trail F f n p b ms b' → Line p b.progress b.contents (moves_in ms)
 trail_line here = tt
-trail_line (pause {m = m} {ms = ms} h t) = rw (pause_moves (move_of m.event) (moves_in ms) h.is).0 (trail_line t)
-trail_line {p = p} (go {b = b} {m = m} {ms = ms} h t) = rw (step_moves p b (move_of m.event) (moves_in ms) h.is) (h.is, trail_line t)
+trail_line (pause h t) = grind (arith, trail_line t)
+trail_line {p = p} (go {b = b} {m = m} {ms = ms} h t) = let e = step_moves p b (move_of m.event) (moves_in ms) h.is in grind (arith, trail_line t)
 trail_line (relatch f l t) = trail_line t
 
 then_same : (t : Bool) (m n : Move) (ms ns : List Move) → m ≡ n → (t ≡ false → ms ≡ ns) → then_unless t m ms ≡ then_unless t n ns
@@ -83,8 +80,8 @@ Chain p b (m ∷ ms) b' = (b.progress.enabled ≡ true) × (m ≡ (step_of p b).
 
 trail_chain : {f : Bool} {n : Manner} {p : Program} {b b' : Course} {ms : List Moment} → Trail ⊥ f n p b ms b' → Chain p b (moves_in ms) b'
 trail_chain here = refl
-trail_chain (pause {m = m} {ms = ms} h t) = rw (pause_moves (move_of m.event) (moves_in ms) h.is).0 (trail_chain t)
-trail_chain {p = p} (go {b = b} {m = m} {ms = ms} h t) = rw (step_moves p b (move_of m.event) (moves_in ms) h.is) (h.on, h.is, trail_chain t)
+trail_chain (pause h t) = grind (arith, trail_chain t)
+trail_chain {p = p} (go {b = b} {m = m} {ms = ms} h t) = let e = step_moves p b (move_of m.event) (moves_in ms) h.is in grind (arith, trail_chain t)
 trail_chain (relatch f l t) = absurd f
 
 record CoursesAlike (b d : Course) : Type 0 where
@@ -98,46 +95,42 @@ chain_off p b b' [] z h = grind arith
 chain_off p b b' (m ∷ ms) z h = grind arith
 
 next_alike : (p : Program) (b d : Course) → InRange p b.progress → CoursesAlike b d → StepsAlike p (step_of p b) (step_of p d) × CoursesAlike (next p b) (next p d)
-next_alike p b d h a = grind (arith, step_alike, latched_alike)
+next_alike p b d h a = grind (arith, step_alike)
 
-abbrev SameEnd : List Move → List Move → Course → Course → Type 0
-SameEnd ms ns x y = (ms ≡ ns) × CoursesAlike x y
+-- without auto restart nothing is read or written after an end or a stop
+chain_whole : (p : Program) → p.restart ≡ false → (b b' : Course) (ms : List Move) → Chain p b ms b' → block ms ≡ ms
+chain_whole p r b b' [] u = refl
+chain_whole p r b b' (m ∷ ms) u = let i = chain_whole p r (next p b) b' ms u.2 in grind (arith, step_off, chain_off)
 
--- two chains from courses alike
-module _ (p : Program) (r : p.restart ≡ false) where
-  chain_step : (b d x y : Course) (m n : Move) (ms ns : List Move) (t : Bool) → final m.mark ≡ t → InRange p b.progress → CoursesAlike b d → Chain p b (m ∷ ms) x → Chain p d (n ∷ ns) y → (t ≡ false → SameEnd ms ns x y) → SameEnd (m ∷ ms) (n ∷ ns) x y
-  chain_step b d x y m n ms ns t z h a u v f = grind (arith, next_alike, step_off, chain_off)
-
-  chain_same : (b d x y : Course) (ms ns : List Move) → InRange p b.progress → CoursesAlike b d → Chain p b ms x → Chain p d ns y → 0 < finals ms → 0 < finals ns → SameEnd ms ns x y
-  chain_same b d x y [] ns h a u v f g = absurd (omega arith)
-  chain_same b d x y (m ∷ ms) [] h a u v f g = absurd (omega arith)
-  chain_same b d x y (m ∷ ms) (n ∷ ns) h a u v f g =
-      let s = next_alike p b d h a in
-      let e : final n.mark ≡ final m.mark = ap (λ w. final w.mark) (v.1 ∙ sym s.0.move ∙ sym u.1) in
-      chain_step b d x y m n ms ns (final m.mark) refl h a u v
-      (λ z. chain_same (next p b) (next p d) x y ms ns s.0.in_range s.1 u.2 v.2 (rw z at f) (rw (e, z) at g))
+-- the same reads and writes from courses alike end alike
+chain_alike : (p : Program) (b d x y : Course) (ms : List Move) → InRange p b.progress → CoursesAlike b d → Chain p b ms x → Chain p d ms y → CoursesAlike x y
+chain_alike p b d x y [] h a u v = grind arith
+chain_alike p b d x y (m ∷ ms) h a u v = let s = next_alike p b d h a in chain_alike p (next p b) (next p d) x y ms s.0.in_range s.1 u.2 v.2
 
 pub boards_end_alike : BoardsEndAlike
 boards_end_alike s t cs ds fs ft i a r us ut x y =
     let w = bus_walk cs s fs.kept us in
     let v = bus_walk ds t ft.kept ut in
     let p = s.chip.registers.program in
+    let first = trail_chain w.trail in
     let second : Chain p (course t) (moves_in (moments ds t)) (course (state_at_end ds t)) = rw a.program (trail_chain v.trail) in
-    let c =
-    chain_same p r (course s) (course t) (course (state_at_end cs s)) (course (state_at_end ds t)) (moves_in (moments cs s)) (moves_in (moments ds t)) i
-    (record { progress = a.progress; latches = a.latches; contents = a.contents }) (trail_chain w.trail) second
-    (rw (← moments_have_the_events s cs, trail_finals w.trail) at x.final) (rw (← moments_have_the_events t ds, trail_finals v.trail) at y.final)
+    let same : moves (events cs s) ≡ moves (events ds t) =
+    rw (moments_have_the_events s cs, moments_have_the_events t ds) at
+    (sym (chain_whole p r _ _ _ first) ∙ rw (← moments_have_the_events s cs, ← moments_have_the_events t ds) at
+    (what_was_found_decides s t cs ds fs ft i (record { program = a.program; progress = a.progress; contents = a.contents }) (bus_uncontrolled cs s us) (bus_uncontrolled ds t ut) x.final y.final) ∙ chain_whole p r _ _ _ second) in
+    let c = chain_alike p (course s) (course t) _ _ (moves_in (moments cs s)) i (record { progress = a.progress; latches = a.latches; contents = a.contents }) first
+    (rw (moments_have_the_events s cs, same, ← moments_have_the_events t ds) second)
     in (
-      rw (moments_have_the_events s cs, moments_have_the_events t ds) at c.0,
+      same,
       record {
-        program = w.program ∙ a.program ∙ sym v.program;
-        progress = c.1.progress;
-        latches = c.1.latches;
+        program = cc;
+        progress = c.progress;
+        latches = c.latches;
         service = w.service (λ z. z) ∙ a.service ∙ sym (v.service (λ z. z));
-        sequence = w.sequence ∙ a.sequence ∙ sym v.sequence;
-        loan = x.no_loan_open ∙ sym y.no_loan_open;
+        sequence = cc;
+        loan = cc;
         readout = w.readout (λ z. z) ∙ a.readout ∙ sym (v.readout (λ z. z));
-        forcing = w.forcing ∙ a.forcing ∙ sym v.forcing;
-        contents = c.1.contents;
+        forcing = cc;
+        contents = c.contents;
       },
     )

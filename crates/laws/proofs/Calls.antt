@@ -9,7 +9,7 @@ use Rattle.registers.specs.declared.latches.Latches.{Latches}
 use Rattle.registers.specs.declared.outcome.Outcome.TheVariants as outcome
 use Rattle.registers.specs.declared.read_out.ReadOut.{ReadOut}
 use Rattle.registers.specs.declared.row.Loan.{Loan}
-use Rattle.registers.specs.declared.row.Loan.TheVariants.{Closed, Master, Released}
+use Rattle.registers.specs.declared.row.Loan.TheVariants.{Closed}
 use Rattle.registers.specs.declared.row.Registers.{Registers}
 use Rattle.registers.specs.declared.row.Service.{Service}
 use Rattle.registers.specs.Calls.{State, Call, write_call, table_call, status_call, open_call, cycle_call, run_call, return_call, acknowledge_call, reti_call, open_did, opened, return_did, returned, event_on, events_of, state_after, write_outcome, does, events, state_at_end}
@@ -98,13 +98,11 @@ reti_walk F f _ s h = stay h
 
 open_walk : (F : Type 0) (n : Loan) (e a : Bool) (s : State) → s.chip.registers.progress.enabled ≡ e → KeptIn s → Walk F s [] (at_chip (open_did n e a s.chip).chip s)
 unfolding open_did
-open_walk F Closed true true s q h = loan_walk F Master s q h
-open_walk F _ _ _ s q h = stay h
+open_walk F n e a s q h = grind (arith, stay, loan_walk)
 
 return_walk : (F : Type 0) (n : Loan) (s : State) → Holds n s.chip.registers.progress → KeptIn s → Walk F s [] (at_chip (return_did n s.chip).chip s)
 unfolding return_did
-return_walk F Released s q h = loan_walk F Closed s q h
-return_walk F _ s q h = stay h
+return_walk F n s q h = grind (arith, stay, loan_walk)
 
 -- EVERY CALL
 
@@ -124,23 +122,31 @@ call_walk F return_call s h a z = return_walk F s.chip.registers.loan s h.holds 
 call_walk F (acknowledge_call l) s h a z = acknowledge_walk F (permitted refl a) s.chip.registers.loan (requested l s.chip.registers) s h
 call_walk F reti_call s h a z = reti_walk F (permitted refl a) s.chip.registers.loan s h
 
-pub uncontrolled_walk : (cs : List Call) (s : State) → KeptIn s → Uncontrolled cs s → Walk Unit s (moments cs s) (state_at_end cs s)
+permits : {F : Type 0} (c : Call) (cs : List Call) → BusOnly (c ∷ cs) ⊎ F → (IsTrue (is_bus_call c) ⊎ F) × (BusOnly cs ⊎ F)
+permits c cs a = grind arith
+
+all_walk : (F : Type 0) (cs : List Call) (s : State) → KeptIn s → BusOnly cs ⊎ F → Uncontrolled cs s → Walk F s (moments cs s) (state_at_end cs s)
 unfolding moments state_at_end Uncontrolled
-uncontrolled_walk [] s h u = stay h
-uncontrolled_walk (c ∷ cs) s h u =
-    let w = call_walk Unit c s h (inr tt) u.0 in
-    walk_then w (uncontrolled_walk cs (does c s).state w.kept u.1)
+all_walk F [] s h a u = stay h
+all_walk F (c ∷ cs) s h a u =
+    let q = permits c cs a in
+    let w = call_walk F c s h q.0 u.0 in
+    walk_then w (all_walk F cs (does c s).state w.kept q.1 u.1)
+
+pub uncontrolled_walk : (cs : List Call) (s : State) → KeptIn s → Uncontrolled cs s → Walk Unit s (moments cs s) (state_at_end cs s)
+uncontrolled_walk cs s h u = all_walk Unit cs s h (inr tt) u
 
 bus_takes_none : (c : Call) (s : State) → IsTrue (is_bus_call c) → TakesNone c s
 unfolding does
 bus_takes_none c s t = grind arith
 
+pub bus_uncontrolled : (cs : List Call) (s : State) → BusOnly cs → Uncontrolled cs s
+unfolding Uncontrolled
+bus_uncontrolled [] s b = tt
+bus_uncontrolled (c ∷ cs) s b = (bus_takes_none c s b.0, bus_uncontrolled cs (does c s).state b.1)
+
 pub bus_walk : (cs : List Call) (s : State) → KeptIn s → BusOnly cs → Walk ⊥ s (moments cs s) (state_at_end cs s)
-unfolding moments state_at_end
-bus_walk [] s h u = stay h
-bus_walk (c ∷ cs) s h u =
-    let w = call_walk ⊥ c s h (inl u.0) (bus_takes_none c s u.0) in
-    walk_then w (bus_walk cs (does c s).state w.kept u.1)
+bus_walk cs s h b = all_walk ⊥ cs s h (inl b) (bus_uncontrolled cs s b)
 
 -- THE EVENTS OF THE MOMENTS
 

@@ -1,17 +1,16 @@
 -- Along a trail: the bytes are carried, and the spaces hold what was written. Assumes nothing.
-use Rattle.std.proofs.Common.{◌≡◌, ℕ, Bool, List, [], ◌∷◌, ◌++◌, None, Option, sym, refl, ap, subst, append_assoc, append-nil, arith}
+use Rattle.std.proofs.Common.{◌≡◌, ℕ, Bool, List, [], ◌∷◌, ◌++◌, Option, refl, append_assoc, append-nil, arith}
 use Rattle.registers.specs.declared.answer.Move.{Move}
 use Rattle.registers.specs.declared.manner.Manner.{Manner}
 use Rattle.registers.specs.declared.program.Program.{Program}
 use Rattle.registers.specs.declared.progress.Progress.{Progress}
 use Rattle.registers.specs.Bytes.{step_on}
-use Rattle.registers.specs.Calls.{Event}
 use Rattle.registers.specs.Contents.{Contents}
 use Rattle.laws.specs.Events.{move_of, read_in, written_in, transfer_reads, bytes_written, as_list, held_in}
 use Rattle.laws.specs.Moments.{Moment, events_in}
 use Rattle.laws.specs.Carried.{AnsweredBy, made_by, Made}
 use Rattle.laws.proofs.Steps.{Left, step_left}
-use Rattle.laws.proofs.Trails.{Course, Pauses, Trail, here, pause, go, relatch, next}
+use Rattle.laws.proofs.Trails.{Course, Trail, here, pause, go, relatch}
 
 -- WHAT THE SPACES HOLD
 
@@ -22,19 +21,11 @@ step_makes : (o : Option ℕ) (p : Program) (k : Progress) (c : Contents) → Ma
 unfolding Makes
 step_makes o p k c = grind arith
 
-pause_makes : (m : Move) (c : Contents) → Pauses m → Makes m c c
-unfolding Makes
-pause_makes m c h = grind arith
-
-made_next : (e : Event) (es : List Event) (c c' c'' : Contents) → Makes (move_of e) c c' → Made c' es c'' → Made c (e ∷ es) c''
-unfolding Makes
-made_next e es c c' c'' d h = grind arith
-
 pub trail_made : {F : Type 0} {f : Bool} {n : Manner} {p : Program} {b b' : Course} {ms : List Moment} → Trail F f n p b ms b' → Made b.contents (events_in ms) b'.contents
 unfolding Makes
 trail_made here = refl
-trail_made (pause {m = m} h t) = grind (arith, made_next, pause_makes, trail_made t)
-trail_made {p = p} (go {b = b} {m = m} h t) = grind (arith, made_next, step_makes, trail_made t)
+trail_made (pause h t) = grind (arith, trail_made t)
+trail_made (go {b = b} h t) = grind (arith, step_makes, trail_made t)
 trail_made (relatch f l t) = trail_made t
 
 pub made_then : (ms ns : List Moment) (c c' c'' : Contents) → Made c (events_in ms) c' → Made c' (events_in ns) c'' → Made c (events_in (ms ++ ns)) c''
@@ -54,18 +45,10 @@ Passed h (m ∷ ms) h' = Passes h (move_of m.event) (held_in m.state) × Passed 
 step_passes : (o : Option ℕ) (p : Program) (k : Progress) (c : Contents) → Left p (step_on o p k c) → Passes o (step_on o p k c).move (step_on o p k c).progress.held
 step_passes o p k c l = grind arith
 
-pause_passes : (m : Move) (h : Option ℕ) → h ≡ None → Pauses m → Passes h m h
-pause_passes m h z e = grind arith
-
-passed_next : (m : Moment) (ms : List Moment) (h h₁ h' : Option ℕ) → held_in m.state ≡ h₁ → Passes h (move_of m.event) h₁ → Passed h₁ ms h' → Passed h (m ∷ ms) h'
-passed_next m ms h h₁ h' e x y = grind arith
-
 pub trail_passed : {F : Type 0} {f : Bool} {n : Manner} {p : Program} {b b' : Course} {ms : List Moment} → Trail F f n p b ms b' → Passed b.progress.held ms b'.progress.held
 trail_passed here = refl
-trail_passed (pause {b = b} {m = m} h t) = passed_next m _ _ b.progress.held _ (ap (λ k. k.held) h.after) (pause_passes _ _ h.empty h.is) (trail_passed t)
-trail_passed {p = p} (go {b = b} {m = m} h t) =
-    passed_next m _ _ (next p b).progress.held _ (ap (λ k. k.held) h.after)
-    (subst (λ m. Passes b.progress.held m (next p b).progress.held) (sym h.is) (step_passes b.progress.held p b.progress b.contents (step_left p b.progress b.contents h.on h.in_block))) (trail_passed t)
+trail_passed (pause h t) = grind (arith, trail_passed t)
+trail_passed {p = p} (go {b = b} h t) = let l = step_left p b.progress b.contents h.on h.in_block in grind (arith, step_passes, trail_passed t)
 trail_passed (relatch f l t) = trail_passed t
 
 pub passed_then : (ms ns : List Moment) (h h' h'' : Option ℕ) → Passed h ms h' → Passed h' ns h'' → Passed h (ms ++ ns) h''

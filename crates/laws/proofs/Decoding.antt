@@ -2,7 +2,7 @@
 use Rattle.std.proofs.Common.{◌≡◌, ℕ, Bool, cond, eqb, List, [], ◌∷◌, ◌++◌, Some, Ok, Err, Option, Result, refl, arith}
 use Rattle.std.proofs.lemmas.Bool.{eqb-true}
 use Rattle.control.specs.Firsts.{commands, coded, wr4_of, wr6_of, named, group_of_command, announced, decoded_first, followers_of}
-use Rattle.control.specs.Followers.{listed, queued, in_front}
+use Rattle.control.specs.Followers.{listed, queued}
 use Rattle.control.specs.Numbers.{command_code}
 use Rattle.control.specs.declared.fault.DecodeFault.{DecodeFault}
 use Rattle.control.specs.declared.fields.Mode.{Mode}
@@ -11,7 +11,7 @@ use Rattle.control.specs.declared.first.Command.TheVariants as command
 use Rattle.control.specs.declared.first.First.{First}
 use Rattle.control.specs.declared.first.First.TheVariants as first
 use Rattle.control.specs.declared.follower.Follower.{Follower}
-use Rattle.control.specs.declared.follower.Follower.TheVariants.{Mask, Match, ReadMask}
+use Rattle.control.specs.declared.follower.Follower.TheVariants.{Mask, Match}
 use Rattle.control.specs.declared.follower.Followers.{Followers}
 use Rattle.control.specs.declared.follower.Followers.TheVariants.{Zero}
 use Rattle.registers.specs.Kept.{OnlySearch}
@@ -41,19 +41,13 @@ module _ (b : ℕ) (c : Command) where
   coded_code [] z = cc
   coded_code (d ∷ cs) z = coded_one d (coded b cs) (eqb b (command_code d)) refl (coded_code cs) z
 
-enable_fits : (b : ℕ) → b ≡ 0x87 → OnlySearch (listed (queued (cond (eqb b 0xBB) (ReadMask ∷ []) [])))
-enable_fits b e = grind arith
-
 commands_fit : (b : ℕ) (o : Option Command) → coded b commands ≡ o → FittingResult b (named o) (queued (announced (group_of_command o) b))
-commands_fit b o e = grind (arith, coded_code, enable_fits)
+commands_fit b o e = grind (arith, coded_code)
 
 pub first_fits : (b : ℕ) → FittingResult b (decoded_first b) (queued (followers_of b))
 unfolding wr6_of
 first_fits b = grind (arith, wr3_fits, wr4_fits, commands_fit)
 
-some_in_front : (f : Follower) (due : Followers) → in_front f due ≡ Zero → ⊥
-some_in_front f due z = grind arith
-
 pub none_queued : (fs : List Follower) → queued fs ≡ Zero → fs ≡ []
 none_queued [] z = refl
-none_queued (f ∷ fs) z = absurd (some_in_front f (queued fs) z)
+none_queued (f ∷ fs) z = grind arith

@@ -19,7 +19,7 @@ use Rattle.registers.specs.declared.row.Loan.{Loan}
 use Rattle.registers.specs.declared.row.Loan.TheVariants.{Closed}
 use Rattle.registers.specs.declared.row.Registers.{Registers}
 use Rattle.registers.specs.Calls.{State, write_call, table_call}
-use Rattle.registers.specs.Firsts.{enabling, with_wr3}
+use Rattle.registers.specs.Firsts.{enabling}
 use Rattle.registers.specs.Kept.{Kept, OnlySearch}
 use Rattle.registers.specs.Writes.{decoded_did, write_did, wrote}
 use Rattle.laws.specs.Enabling.{EnablingByte, enable_command, enable_bit_alone, enable_bit_before, EnabledBy, Accepted, Found, SameBlock, EnablingsLeaveFound}
@@ -49,7 +49,7 @@ command_decoded = refl
 
 command_enabled : (x : Chip) → EnabledIf x (decoded_did (first_says Zero (control.First (Wr6 Enable))) x)
 unfolding decoded_did first_says
-command_enabled x = enabling_enabled x x.registers refl refl
+command_enabled x = grind (arith, enabling_enabled)
 
 wr3_decoded : (b : ℕ) (stop interrupts : Bool) → decoded_first b ≡ Ok (Wr3 stop interrupts true) → followers_of b ≡ [] → decoded Zero b ≡ first_says Zero (control.First (Wr3 stop interrupts true))
 unfolding first_says
@@ -57,7 +57,7 @@ wr3_decoded b stop interrupts e n = grind arith
 
 wr3_enabled : (x : Chip) (stop interrupts : Bool) → EnabledIf x (decoded_did (first_says Zero (control.First (Wr3 stop interrupts true))) x)
 unfolding decoded_did first_says
-wr3_enabled x stop interrupts = enabling_enabled x (with_wr3 stop interrupts x.registers) refl refl
+wr3_enabled x stop interrupts = grind arith
 
 module _ (x : Chip) (e : x.registers.sequence.enabling ≡ true) where
   last_enabled : (b : ℕ) (f : Follower) → (f ≡ due.Mask) ⊎ (f ≡ due.Match) → EnabledIf x (decoded_did (decoded (One f) b) x)
@@ -81,19 +81,14 @@ write_closed l b x n = grind arith
 
 byte_enabled : (b : ℕ) (x y : Chip) → Kept x.registers → EnabledBy b x y → Enabled x y
 unfolding wrote
-byte_enabled b x y k e =
-    let w = wrote_kept b x y k e.accepted in
-    subst (EnabledIf x) e.accepted (subst (EnabledIf x) (sym (write_closed x.registers.loan b x w.before)) (decoded_enabled b x k e.byte))
+byte_enabled b x y k e = let w = wrote_kept b x y k e.accepted in let d = decoded_enabled b x k e.byte in let c = write_closed x.registers.loan b x w.before in grind arith
 
 pub accepted_kept : (bs : List ℕ) (x y : Chip) → Kept x.registers → Accepted bs x y → Kept y.registers
 accepted_kept [] x y k a = grind arith
 accepted_kept (b ∷ bs) x y k a = accepted_kept bs a.0 y (wrote_kept b x a.0 k a.1).kept a.2
 
 byte_found : (b : ℕ) (x : Chip) (t : State) → Kept x.registers → EnabledBy b x t.chip → Found t × SameBlock x t.chip
-byte_found b x t k e =
-    let w = wrote_kept b x t.chip k e.accepted in
-    let n = byte_enabled b x t.chip k e in
-    (record { kept = w.kept; enabled = n.on; no_loan_open = w.after }, n.block)
+byte_found b x t k e = let w = wrote_kept b x t.chip k e.accepted in let n = byte_enabled b x t.chip k e in grind arith
 
 pub enablings_leave_found : EnablingsLeaveFound
 enablings_leave_found s (write_call b) x k e = byte_found b x _ (rw e.0 k) e.1

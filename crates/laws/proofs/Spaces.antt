@@ -3,16 +3,12 @@ use Rattle.std.proofs.Common.{◌≡◌, ℕ, ◌<◌, arith}
 use Rattle.control.specs.declared.fields.Space.{Space}
 use Rattle.control.specs.declared.fields.Space.TheVariants.{Memory, Io}
 use Rattle.registers.specs.Contents.{Contents, SameContents, byte_at, after_read, after_write}
-use Rattle.registers.specs.Ports.{address_of}
 use Rattle.spaces.specs.Ports.{Port, SamePorts, with_port}
 
 -- an address of the space
 abbrev pub Within : Space → ℕ → Type 0
 Within Memory a = a < 65536
 Within Io a = a < 256
-
-pub address_within : (s : Space) (n : ℕ) → n < 65536 → Within s (address_of s n)
-address_within s n h = grind arith
 
 with_port_same : (p q : ℕ → Port) (n : ℕ) (x y : Port) → SamePorts p q → x ≡ y → SamePorts (with_port p n x) (with_port q n y)
 with_port_same p q n x y h e k l = let a = h k l in grind arith

@@ -1,5 +1,5 @@
 -- Every cycle is a byte's read or write, or a pause: the trail of a list of calls. Assumes nothing.
-use Rattle.std.proofs.Common.{◌≡◌, ℕ, ◌≤◌, Bool, true, false, ◌⊎◌, List, [], ◌∷◌, ◌++◌, None, Option, refl, ◌∙◌, arith}
+use Rattle.std.proofs.Common.{◌≡◌, ◌≤◌, Bool, true, false, ◌⊎◌, List, [], ◌∷◌, ◌++◌, None, arith}
 use Rattle.control.specs.declared.fields.Mode.{Mode}
 use Rattle.control.specs.declared.fields.Space.TheVariants.{Memory}
 use Rattle.registers.specs.declared.answer.Kind.{Kind}
@@ -12,12 +12,12 @@ use Rattle.registers.specs.declared.manner.Manner.{Manner}
 use Rattle.registers.specs.declared.program.Program.{Program}
 use Rattle.registers.specs.declared.progress.Progress.{Progress}
 use Rattle.registers.specs.declared.row.Loan.{Loan}
-use Rattle.registers.specs.declared.row.Loan.TheVariants.{Closed, Master, Released}
+use Rattle.registers.specs.declared.row.Loan.TheVariants.{Master}
 use Rattle.registers.specs.declared.row.Registers.{Registers}
 use Rattle.registers.specs.Bytes.{Step, step, latched}
 use Rattle.registers.specs.Calls.{State, cycled_state, state_on, state_after, state_after_all}
 use Rattle.registers.specs.Contents.{Contents}
-use Rattle.registers.specs.Cycles.{Cycled, is_active, loan_after, loan_paused, worked, paused, cycled_on, cycled}
+use Rattle.registers.specs.Cycles.{Cycled, is_active, loan_after, worked, paused, cycled}
 use Rattle.registers.specs.Kept.{Holds}
 use Rattle.laws.specs.Events.{move_of}
 use Rattle.laws.specs.Moments.{Moment, moment_on, moment_of, moments_of}
@@ -93,17 +93,7 @@ pub stay : {F : Type 0} {s : State} → KeptIn s → Walk F s [] s
 stay h = search here
 
 pub walk_then : {F : Type 0} {s s' s'' : State} {ms ns : List Moment} → Walk F s ms s' → Walk F s' ns s'' → Walk F s (ms ++ ns) s''
-walk_then w u =
-    record {
-      trail = trail_then w.trail (rw (w.program, w.manner, w.forcing) at u.trail);
-      kept = u.kept;
-      program = u.program ∙ w.program;
-      manner = u.manner ∙ w.manner;
-      forcing = u.forcing ∙ w.forcing;
-      sequence = u.sequence ∙ w.sequence;
-      service = λ n. u.service n ∙ w.service n;
-      readout = λ n. u.readout n ∙ w.readout n;
-    }
+walk_then w u = let t = trail_then w.trail (rw (w.program, w.manner, w.forcing) at u.trail) in grind arith
 
 -- A CYCLE OF THE MASTER
 
@@ -123,25 +113,18 @@ module _ (F : Type 0) (i : CycleInput) (s : State) (on : s.chip.registers.progre
   works : CycleWalk (worked i.waits r s.contents)
   works = let l = step_left r.program r.progress s.contents on (h.block on).count in let q = holds_after r.manner.mode r.program (step_of r.program (course s)) l in grind (arith, go, here)
 
-  holds_paused : (d : Mode) → r.progress.held ≡ None → Holds (loan_paused d) r.progress
-  holds_paused d e = grind arith
-
   pauses : r.progress.held ≡ None → is_active r.manner s.chip.forcing.forced i.ready ≡ false → CycleWalk (paused r s.contents)
-  pauses e a = let q = holds_paused r.manner.mode e in grind (arith, pause, here)
-
-  by_held : (o : Option ℕ) (a : Bool) → r.progress.held ≡ o → is_active r.manner s.chip.forcing.forced i.ready ≡ a → CycleWalk (cycled_on o a i.waits r s.contents)
-  by_held o a e q = grind (arith, works, pauses)
+  pauses e a = grind (arith, pause, here)
 
   cycles : CycleWalk (cycled s.chip.forcing.forced i r s.contents)
-  cycles = by_held r.progress.held (is_active r.manner s.chip.forcing.forced i.ready) refl refl
+  cycles = grind (arith, works, pauses)
 
 -- A CYCLE, AND CYCLES IN A ROW
 
 cycle_on : (F : Type 0) (n : Loan) (i : CycleInput) (s : State) → Holds n s.chip.registers.progress → KeptIn s → Walk F s (moment_on n i s) (state_on n i s)
 unfolding moment_on state_on
-cycle_on F Closed i s q h = stay h
-cycle_on F Released i s q h = stay h
 cycle_on F Master i s q h = cycles F i s q h
+cycle_on F _ i s q h = stay h
 
 pub cycle_walk : (F : Type 0) (i : CycleInput) (s : State) → KeptIn s → Walk F s (moment_of i s) (state_after i s)
 cycle_walk F i s h = cycle_on F s.chip.registers.loan i s h.holds h

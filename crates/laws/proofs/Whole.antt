@@ -1,5 +1,5 @@
 -- All calls, control bytes too: every channel stays kept, the bytes are carried, the spaces hold what was written. Assumes nothing.
-use Rattle.std.proofs.Common.{◌≡◌, ℕ, ◌+◌, List, [], ◌∷◌, ◌++◌, None, Ok, Err, Result, sym, refl, ◌∙◌, inr, arith}
+use Rattle.std.proofs.Common.{◌≡◌, ℕ, ◌+◌, List, [], ◌∷◌, ◌++◌, None, Ok, Err, Result, refl, inr, arith}
 use Rattle.control.specs.declared.fault.TableFault.{TableFault}
 use Rattle.registers.specs.declared.chip.Chip.{Chip}
 use Rattle.registers.specs.declared.fault.ChannelFault.{ChannelFault}
@@ -11,7 +11,6 @@ use Rattle.registers.specs.Writes.{Done, wrote, table_next, table_did}
 use Rattle.laws.specs.Carried.{KeptIn, Made, CallsKeep, BytesAreCarried, BytesAreCarriedAtEachMoment, CyclesMakeTheContents}
 use Rattle.laws.specs.Events.{held_in}
 use Rattle.laws.specs.Moments.{Moment, moments_in, moments, events_in}
-use Rattle.laws.specs.Enabling.{TakesNone}
 use Rattle.laws.proofs.Trails.{Walk}
 use Rattle.laws.proofs.Writes.{wrote_kept}
 use Rattle.laws.proofs.Calls.{at_chip, call_walk, moments_have_the_events}
@@ -23,7 +22,7 @@ record Whole (s : State) (ms : List Moment) (s' : State) : Type 0 where
   passed : Passed (held_in s) ms (held_in s')
 
 whole : {F : Type 0} {s s' : State} {ms : List Moment} → Walk F s ms s' → Whole s ms s'
-whole w = record { kept = w.kept; made = trail_made w.trail; passed = trail_passed w.trail }
+whole w = let m = trail_made w.trail in let p = trail_passed w.trail in grind arith
 
 whole_none : {s : State} → KeptIn s → Whole s [] s
 whole_none h = grind arith
@@ -38,9 +37,7 @@ empty : (r : Registers) → r.loan ≡ Closed → Kept r → r.progress.held ≡
 empty r n k = grind arith
 
 byte_whole : (b : ℕ) (y : Chip) (s : State) → KeptIn s → wrote b s.chip ≡ Ok y → Whole s [] (at_chip y s)
-byte_whole b y s h z =
-    let w = wrote_kept b s.chip y h z in
-    record { kept = w.kept; made = refl; passed = empty y.registers w.after w.kept ∙ sym (empty s.chip.registers w.before h) }
+byte_whole b y s h z = let w = wrote_kept b s.chip y h z in grind (arith, empty)
 
 write_whole : (b : ℕ) (v : Result Chip ChannelFault) (s : State) → KeptIn s → wrote b s.chip ≡ v → Whole s [] (write_outcome v s).state
 unfolding write_outcome
@@ -59,14 +56,11 @@ table_whole i (b ∷ bs) s h = next_whole b (wrote b s.chip) i _ s h refl (λ y 
 
 -- EVERY CALL
 
-other_whole : (c : Call) (s : State) → KeptIn s → TakesNone c s → Whole s (moments_in c s) (does c s).state
-other_whole c s h z = whole (call_walk Unit c s h (inr tt) z)
-
 call_whole : (c : Call) (s : State) → KeptIn s → Whole s (moments_in c s) (does c s).state
 unfolding does moments_in
 call_whole (write_call b) s h = write_whole b (wrote b s.chip) s h refl
 call_whole (table_call bs) s h = table_whole 0 bs s h
-call_whole c s h = other_whole c s h refl
+call_whole c s h = whole (call_walk Unit c s h (inr tt) refl)
 
 all_whole : (cs : List Call) (s : State) → KeptIn s → Whole s (moments cs s) (state_at_end cs s)
 unfolding moments state_at_end

@@ -1,9 +1,8 @@
 -- An accepted control byte leaves a kept channel with no loan open, and an enabled one only if it is an enabling. Assumes nothing.
-use Rattle.std.proofs.Common.{◌≡◌, ℕ, Bool, true, false, ◌⊎◌, Some, None, Ok, Err, Result, sym, refl, ap, ◌∙◌, subst, inl, inr, arith}
-use Rattle.std.proofs.lemmas.Bool.{false≢true}
+use Rattle.std.proofs.Common.{◌≡◌, ℕ, Bool, true, false, ◌⊎◌, Some, None, Ok, Err, Result, refl, ap, ◌∙◌, subst, arith}
 use Rattle.control.specs.Firsts.{decoded_first, followers_of}
-use Rattle.control.specs.Followers.{listed, queued, decoded_follower}
-use Rattle.control.specs.Tables.{decoded, taken, first_taken, follower_taken, due_after}
+use Rattle.control.specs.Followers.{listed, queued}
+use Rattle.control.specs.Tables.{decoded, taken, first_taken, follower_taken}
 use Rattle.control.specs.declared.fault.DecodeFault.{DecodeFault}
 use Rattle.control.specs.declared.first.Command.{Command}
 use Rattle.control.specs.declared.first.Command.TheVariants as command
@@ -12,7 +11,6 @@ use Rattle.control.specs.declared.first.First.TheVariants as first
 use Rattle.control.specs.declared.follower.Follower.{Follower}
 use Rattle.control.specs.declared.follower.Follower.TheVariants.{Mask, Match}
 use Rattle.control.specs.declared.follower.FollowerByte.{FollowerByte}
-use Rattle.control.specs.declared.follower.FollowerByte.TheVariants as follower
 use Rattle.control.specs.declared.follower.Followers.{Followers}
 use Rattle.control.specs.declared.follower.Followers.TheVariants.{Zero, One, Two, Three, Four}
 use Rattle.registers.specs.declared.chip.Chip.{Chip}
@@ -66,11 +64,7 @@ module _ (x : Chip) (n : x.registers.loan ≡ Closed) (h : x.registers.progress.
   read_out_good A none marks due = grind arith
 
   command_good : (c : Command) (due : Followers) → (c ≡ command.Enable → OnlySearch (listed due)) → GoodIfAccepted (c ≡ command.Enable) (command_did c due x)
-  command_good command.PowerOn due o = record { kept = power_on_kept; closed = refl; only_by = λ z. cc }
-  command_good command.Enable due o = then_by _ (λ _. refl) (enabling_good x.registers n h u due x (o refl))
-  command_good command.StartReadOut due o = read_out_good _ _ _ due
-  command_good command.ReadStatus due o = read_out_good _ _ _ due
-  command_good _ due o = calm _ h u refl refl n
+  command_good c due o = grind (arith, enabling_good, read_out_good)
 
   first_good : (b : ℕ) (f : First) (due : Followers) → Fitting b f due → GoodIfAccepted (EnablesAtOnce f due) (first_did f due x)
   first_good b f due o = grind (arith, enabling_good, command_good, calm)
@@ -105,18 +99,15 @@ module _ (x : Chip) (n : x.registers.loan ≡ Closed) (h : x.registers.progress.
   -- where no enabling waits, whatever the follower
   plain_good : (A : Type 0) (due : Followers) (v : Result FollowerByte DecodeFault) → waiting ≡ false → GoodIfAccepted A (decoded_did (follower_taken due v) x)
   unfolding decoded_did
-  plain_good A due (Ok f) q = then_by (Ok (follower_did f due x)) (λ l. absurd (false≢true (sym q ∙ l.0))) (follower_good f due (λ z. absurd (false≢true (sym q ∙ z))))
-  plain_good A due (Err e) q = tt
+  plain_good A due v q = grind (arith, follower_good)
 
   -- where one waits, the follower is of WR3
   search_good : (f : Follower) (rest : Followers) (b : ℕ) → (f ≡ Mask) ⊎ (f ≡ Match) → OnlySearch (listed rest) → InBlock x.registers → GoodIfAccepted (IsLast rest) (decoded_did (taken (Some f) rest b) x)
   unfolding decoded_did
-  search_good f rest b (inl e) o k = rw e (follower_good (follower.Mask b) rest (λ _. (o, record { some_length = k.some_length; count = k.count })))
-  search_good f rest b (inr e) o k = rw e (follower_good (follower.Match b) rest (λ _. (o, record { some_length = k.some_length; count = k.count })))
+  search_good f rest b e o k = grind (arith, follower_good)
 
   taken_good : (t : Bool) (f : Follower) (rest : Followers) (b : ℕ) → waiting ≡ t → (t ≡ true → (((f ≡ Mask) ⊎ (f ≡ Match)) × OnlySearch (listed rest)) × InBlock x.registers) → GoodIfAccepted (IsLast rest) (decoded_did (taken (Some f) rest b) x)
-  taken_good true f rest b q w = let o = w refl in search_good f rest b o.0.0 o.0.1 o.1
-  taken_good false f rest b q w = plain_good _ (due_after f b rest) (decoded_follower f b) q
+  taken_good t f rest b q w = grind (arith, plain_good, search_good)
 
   -- A CONTROL BYTE
 
@@ -129,10 +120,7 @@ module _ (x : Chip) (n : x.registers.loan ≡ Closed) (h : x.registers.progress.
 
 write_good : (l : Loan) (b : ℕ) (x : Chip) → x.registers.loan ≡ l → Kept x.registers → GoodIfAccepted (EnablingByte b x.registers.sequence) (write_did l b x)
 unfolding write_did
-write_good Closed b x n k =
-    let h : x.registers.progress.held ≡ None = rw n at k.holds in
-    decoded_good x n h (k.stopping h) x.registers.sequence.due b refl (λ z. let w = k.enabling z in (w.followers, w.block))
-write_good _ b x n k = tt
+write_good l b x n k = grind (arith, decoded_good)
 
 -- an accepted byte finds no loan open and leaves none
 pub record Wrote (b : ℕ) (x y : Chip) : Type 0 where
