@@ -1,5 +1,5 @@
 -- What was found decides the reads and writes, and two boards found alike end alike. Assumes nothing.
-use Rattle.std.proofs.Common.{◌≡◌, ℕ, ◌<◌, Bool, true, false, List, [], ◌∷◌, ◌++◌, sym, refl, ap, ◌∙◌, arith}
+use Rattle.std.proofs.Common.{◌≡◌, ℕ, ◌<◌, Bool, true, false, List, [], ◌∷◌, ◌++◌, sym, refl, ◌∙◌, arith}
 use Rattle.registers.specs.declared.answer.Move.{Move}
 use Rattle.registers.specs.declared.manner.Manner.{Manner}
 use Rattle.registers.specs.declared.program.Program.{Program}
@@ -8,7 +8,7 @@ use Rattle.registers.specs.Bytes.{step}
 use Rattle.registers.specs.Calls.{events, state_at_end}
 use Rattle.registers.specs.Contents.{Contents, SameContents}
 use Rattle.registers.specs.Numbers.{final}
-use Rattle.laws.specs.Boards.{move_if, moves, then_unless, block, InRange, WhatWasFoundDecides, BoardsEndAlike}
+use Rattle.laws.specs.Boards.{move_if, moves, block, InRange, WhatWasFoundDecides, BoardsEndAlike}
 use Rattle.laws.specs.Events.{move_of, one_more_if, many, is_final}
 use Rattle.laws.specs.Moments.{Moment, moments, events_in}
 use Rattle.laws.proofs.Steps.{step_off}
@@ -48,18 +48,14 @@ trail_line (pause h t) = grind (arith, trail_line t)
 trail_line {p = p} (go {b = b} {m = m} {ms = ms} h t) = let e = step_moves p b (move_of m.event) (moves_in ms) h.is in grind (arith, trail_line t)
 trail_line (relatch f l t) = trail_line t
 
-then_same : (t : Bool) (m n : Move) (ms ns : List Move) → m ≡ n → (t ≡ false → ms ≡ ns) → then_unless t m ms ≡ then_unless t n ns
-then_same t m n ms ns e f = grind arith
-
 line_block : (p : Program) (k l : Progress) (c d : Contents) (ms ns : List Move) → InRange p k → k ≡ l → SameContents c d → Line p k c ms → Line p l d ns → 0 < finals ms → 0 < finals ns → block ms ≡ block ns
 line_block p k l c d [] ns h q s x y f g = absurd (omega arith)
 line_block p k l c d (m ∷ ms) [] h q s x y f g = absurd (omega arith)
 line_block p k l c d (m ∷ ms) (n ∷ ns) h q s x y f g =
     let a = step_alike p k l c d h q s in
+    let i = λ (z : final m.mark ≡ false). line_block p (step p k c).progress (step p l d).progress (step p k c).contents (step p l d).contents ms ns a.in_range a.progress a.contents x.1 y.1 (grind arith) (grind arith) in
     let e : m ≡ n = x.0 ∙ a.move ∙ sym y.0 in
-    rw (ap (λ z. final z.mark) (sym e))
-    (then_same (final m.mark) m n (block ms) (block ns) e
-    (λ z. line_block p (step p k c).progress (step p l d).progress (step p k c).contents (step p l d).contents ms ns a.in_range a.progress a.contents x.1 y.1 (rw z at f) (rw (ap (λ w. final w.mark) (sym e), z) at g)))
+    grind arith
 
 pub what_was_found_decides : WhatWasFoundDecides
 what_was_found_decides s t cs ds fs ft i a us ut x y =

@@ -1,6 +1,5 @@
 -- Every call that accepts no control byte is a walk, and so is a list of them. Assumes nothing.
 use Rattle.std.proofs.Common.{◌≡◌, ℕ, ◌+◌, ◌<◌, Bool, true, false, IsTrue, ◌⊎◌, List, [], ◌∷◌, ◌++◌, length, Result, refl, ap, inl, inr, arith}
-use Rattle.control.specs.declared.fault.TableFault.{TableFault}
 use Rattle.control.specs.declared.fields.Level.{Level}
 use Rattle.registers.specs.declared.chip.Chip.{Chip}
 use Rattle.registers.specs.declared.fault.ChannelFault.{ChannelFault}
@@ -10,20 +9,19 @@ use Rattle.registers.specs.declared.outcome.Outcome.TheVariants as outcome
 use Rattle.registers.specs.declared.read_out.ReadOut.{ReadOut}
 use Rattle.registers.specs.declared.row.Loan.{Loan}
 use Rattle.registers.specs.declared.row.Loan.TheVariants.{Closed}
-use Rattle.registers.specs.declared.row.Registers.{Registers}
 use Rattle.registers.specs.declared.row.Service.{Service}
 use Rattle.registers.specs.Calls.{State, Call, write_call, table_call, status_call, open_call, cycle_call, run_call, return_call, acknowledge_call, reti_call, open_did, opened, return_did, returned, event_on, events_of, state_after, write_outcome, does, events, state_at_end}
 use Rattle.registers.specs.Chips.{with_loan, with_latches, with_service, with_registers, with_readout}
 use Rattle.registers.specs.Cycles.{is_active}
 use Rattle.registers.specs.Interrupts.{acknowledge_did, acknowledged, reti_did, returned_from, requested}
-use Rattle.registers.specs.Kept.{Kept, Holds}
+use Rattle.registers.specs.Kept.{Holds}
 use Rattle.registers.specs.ReadOuts.{status_did, status_read}
-use Rattle.registers.specs.Writes.{Done, wrote, table_next, table_did}
+use Rattle.registers.specs.Writes.{wrote, table_next, table_did}
 use Rattle.laws.specs.Carried.{KeptIn}
 use Rattle.laws.specs.Moments.{Moment, moment_on, moments_of, moments_in, moments, events_in, MomentsHaveTheEvents}
 use Rattle.laws.specs.Enabling.{bytes_accepted, TakesNone, Uncontrolled}
 use Rattle.laws.specs.Boards.{is_bus_call, BusOnly}
-use Rattle.laws.proofs.Trails.{here, relatch, Walk, stay, walk_then, cycle_walk, run_walk}
+use Rattle.laws.proofs.Trails.{here, relatch, Walk, stay, walk_then, cycle_walk, run_walk, relatched, Trail, course}
 
 -- the board with this channel
 abbrev pub at_chip : Chip → State → State
@@ -31,53 +29,30 @@ at_chip x s = record { chip = x; contents = s.contents }
 
 -- WHAT A CALL MAY CHANGE BESIDE THE PROGRESS
 
--- the same program, progress and sequence, and another loan
-with_loan_kept : (n : Loan) (l : Latches) (v : Service) (r : Registers) → Holds n r.progress → Kept r → Kept (with_loan n (with_latches l (with_service v r)))
-with_loan_kept n l v r h k = grind arith
-
 -- other latches, service and read-out: not in a call of the buses
 served_walk : (F : Type 0) → F → (l : Latches) (v : Service) (o : ReadOut) (s : State) → KeptIn s → Walk F s [] (at_chip (with_readout o (with_registers (with_service v (with_latches l s.chip.registers)) s.chip)) s)
 served_walk F f l v o s h =
-    record {
-      trail = relatch f l here;
-      kept = with_loan_kept s.chip.registers.loan l v s.chip.registers h.holds h;
-      program = refl;
-      manner = refl;
-      forcing = refl;
-      sequence = refl;
-      service = λ n. absurd (n f);
-      readout = λ n. absurd (n f);
-    }
+    let t : Trail F s.chip.forcing.forced s.chip.registers.manner s.chip.registers.program (course s) [] (relatched l (course s)) = relatch f l here in
+    grind arith
 
 loan_walk : (F : Type 0) (n : Loan) (s : State) → Holds n s.chip.registers.progress → KeptIn s → Walk F s [] (at_chip (with_registers (with_loan n s.chip.registers) s.chip) s)
-loan_walk F n s q h = grind (arith, here, with_loan_kept)
+loan_walk F n s q h = grind (arith, here)
 
 -- CONTROL BYTES THAT ARE REFUSED
 
 write_walk : (F : Type 0) (v : Result Chip ChannelFault) (s : State) → KeptIn s → bytes_accepted 1 (write_outcome v s).outcome ≡ 0 → Walk F s [] (write_outcome v s).state
 unfolding write_outcome
-write_walk F v s h z = grind (arith, stay)
-
-abbrev TableAnswer : Type 0
-TableAnswer = Result (Unit {0}) (TableFault ChannelFault)
-
--- after a byte has been accepted, some has
-some_next : (v : Result Chip ChannelFault) (l i : ℕ) (rest : Chip → Done TableAnswer) (x : Chip) → 0 < i → ((y : Chip) → bytes_accepted l (outcome.WroteTable (rest y).answer) ≡ 0 → ⊥) → bytes_accepted l (outcome.WroteTable (table_next v i rest x).answer) ≡ 0 → ⊥
-unfolding table_next
-some_next v l i rest x q f z = grind arith
+write_walk F v s h z = grind (arith, here)
 
 some : (bs : List ℕ) (l i : ℕ) (x : Chip) → 0 < l → 0 < i → bytes_accepted l (outcome.WroteTable (table_did i bs x).answer) ≡ 0 → ⊥
-unfolding table_did
+unfolding table_did table_next
 some [] l i x p q z = omega arith
-some (b ∷ bs) l i x p q z = some_next (wrote b x) l i _ x q (λ y. some bs l (i + 1) y p (omega arith)) z
+some (b ∷ bs) l i x p q z = let h = λ (y : Chip). some bs l (i + 1) y p (omega arith) in grind arith
 
 none : (bs : List ℕ) (x : Chip) → bytes_accepted (length bs) (outcome.WroteTable (table_did 0 bs x).answer) ≡ 0 → (table_did 0 bs x).chip ≡ x
 unfolding table_did table_next
 none [] x z = refl
 none (b ∷ bs) x z = grind (arith, some)
-
-same_walk : (F : Type 0) (x : Chip) (s : State) → x ≡ s.chip → KeptIn s → Walk F s [] (at_chip x s)
-same_walk F x s e h = rw e (stay h)
 
 -- THE OTHER CALLS
 
@@ -98,11 +73,11 @@ reti_walk F f _ s h = stay h
 
 open_walk : (F : Type 0) (n : Loan) (e a : Bool) (s : State) → s.chip.registers.progress.enabled ≡ e → KeptIn s → Walk F s [] (at_chip (open_did n e a s.chip).chip s)
 unfolding open_did
-open_walk F n e a s q h = grind (arith, stay, loan_walk)
+open_walk F n e a s q h = grind (arith, here)
 
 return_walk : (F : Type 0) (n : Loan) (s : State) → Holds n s.chip.registers.progress → KeptIn s → Walk F s [] (at_chip (return_did n s.chip).chip s)
 unfolding return_did
-return_walk F n s q h = grind (arith, stay, loan_walk)
+return_walk F n s q h = grind (arith, here)
 
 -- EVERY CALL
 
@@ -113,7 +88,7 @@ permitted e h = grind arith
 pub call_walk : (F : Type 0) (c : Call) (s : State) → KeptIn s → IsTrue (is_bus_call c) ⊎ F → TakesNone c s → Walk F s (moments_in c s) (does c s).state
 unfolding does moments_in status_read opened returned acknowledged returned_from
 call_walk F (write_call b) s h a z = write_walk F (wrote b s.chip) s h z
-call_walk F (table_call bs) s h a z = same_walk F _ s (none bs s.chip z) h
+call_walk F (table_call bs) s h a z = rw (none bs s.chip z) (stay h)
 call_walk F (status_call l) s h a z = status_walk F (permitted refl a) s.chip.registers.loan l s h
 call_walk F (open_call l) s h a z = let r = s.chip.registers in open_walk F r.loan r.progress.enabled (is_active r.manner s.chip.forcing.forced l) s refl h
 call_walk F (cycle_call i) s h a z = cycle_walk F i s h

@@ -52,8 +52,8 @@ trail_passed {p = p} (go {b = b} h t) = let l = step_left p b.progress b.content
 trail_passed (relatch f l t) = trail_passed t
 
 pub passed_then : (ms ns : List Moment) (h h' h'' : Option ℕ) → Passed h ms h' → Passed h' ns h'' → Passed h (ms ++ ns) h''
-passed_then [] ns h h' h'' u v = rw (← u) v
-passed_then (m ∷ ms) ns h h' h'' u v = (u.0, passed_then ms ns (held_in m.state) h' h'' u.1 v)
+passed_then [] ns h h' h'' u v = grind arith
+passed_then (m ∷ ms) ns h h' h'' u v = grind (arith, passed_then ms ns (held_in m.state) h' h'' u.1 v)
 
 -- what is read and not written is what is held
 pub passed_bytes : (ms : List Moment) (h h' : Option ℕ) → Passed h ms h' → as_list h ++ transfer_reads (events_in ms) ≡ bytes_written (events_in ms) ++ as_list h'

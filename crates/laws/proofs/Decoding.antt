@@ -1,11 +1,10 @@
 -- Which followers come after a first byte that may enable. Assumes nothing.
 use Rattle.std.proofs.Common.{◌≡◌, ℕ, Bool, cond, eqb, List, [], ◌∷◌, ◌++◌, Some, Ok, Err, Option, Result, refl, arith}
 use Rattle.std.proofs.lemmas.Bool.{eqb-true}
-use Rattle.control.specs.Firsts.{commands, coded, wr4_of, wr6_of, named, group_of_command, announced, decoded_first, followers_of}
+use Rattle.control.specs.Firsts.{commands, coded, wr6_of, named, group_of_command, announced, decoded_first, followers_of}
 use Rattle.control.specs.Followers.{listed, queued}
 use Rattle.control.specs.Numbers.{command_code}
 use Rattle.control.specs.declared.fault.DecodeFault.{DecodeFault}
-use Rattle.control.specs.declared.fields.Mode.{Mode}
 use Rattle.control.specs.declared.first.Command.{Command}
 use Rattle.control.specs.declared.first.Command.TheVariants as command
 use Rattle.control.specs.declared.first.First.{First}
@@ -29,9 +28,6 @@ FittingResult b (Err e) due = Unit {0}
 wr3_fits : (mask match : Bool) → OnlySearch (listed (queued (cond mask (Mask ∷ []) [] ++ cond match (Match ∷ []) [])))
 wr3_fits mask match = grind arith
 
-wr4_fits : (b : ℕ) (o : Option Mode) (due : Followers) → FittingResult b (wr4_of o) due
-wr4_fits b o due = grind arith
-
 -- a command has its own code
 module _ (b : ℕ) (c : Command) where
   coded_one : (d : Command) (rest : Option Command) (t : Bool) → eqb b (command_code d) ≡ t → (rest ≡ Some c → b ≡ command_code c) → cond t (Some d) rest ≡ Some c → b ≡ command_code c
@@ -46,7 +42,7 @@ commands_fit b o e = grind (arith, coded_code)
 
 pub first_fits : (b : ℕ) → FittingResult b (decoded_first b) (queued (followers_of b))
 unfolding wr6_of
-first_fits b = grind (arith, wr3_fits, wr4_fits, commands_fit)
+first_fits b = grind (arith, wr3_fits, commands_fit)
 
 pub none_queued : (fs : List Follower) → queued fs ≡ Zero → fs ≡ []
 none_queued [] z = refl

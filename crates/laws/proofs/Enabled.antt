@@ -1,14 +1,8 @@
 -- Each enabling leaves an enabled channel, with length, count and counters as it found them. Assumes nothing.
-use Rattle.std.proofs.Common.{◌≡◌, ℕ, Bool, true, ◌⊎◌, List, [], ◌∷◌, Ok, Err, Result, sym, refl, ap, ◌∙◌, subst, arith}
+use Rattle.std.proofs.Common.{◌≡◌, ℕ, Bool, true, ◌⊎◌, List, [], ◌∷◌, Ok, Err, Result, sym, refl, subst, arith}
 use Rattle.control.specs.Firsts.{wr6_of, decoded_first, followers_of}
-use Rattle.control.specs.Followers.{listed}
 use Rattle.control.specs.Tables.{decoded}
-use Rattle.control.specs.declared.decoded.ControlByte.{ControlByte}
-use Rattle.control.specs.declared.decoded.ControlByte.TheVariants as control
-use Rattle.control.specs.declared.decoded.Decoded.{Decoded}
-use Rattle.control.specs.declared.fault.DecodeFault.{DecodeFault}
-use Rattle.control.specs.declared.first.Command.TheVariants.{Enable}
-use Rattle.control.specs.declared.first.First.TheVariants.{Wr3, Wr6}
+use Rattle.control.specs.declared.first.First.TheVariants.{Wr3}
 use Rattle.control.specs.declared.follower.Follower.{Follower}
 use Rattle.control.specs.declared.follower.Follower.TheVariants as due
 use Rattle.control.specs.declared.follower.Followers.{Followers}
@@ -19,8 +13,8 @@ use Rattle.registers.specs.declared.row.Loan.{Loan}
 use Rattle.registers.specs.declared.row.Loan.TheVariants.{Closed}
 use Rattle.registers.specs.declared.row.Registers.{Registers}
 use Rattle.registers.specs.Calls.{State, write_call, table_call}
-use Rattle.registers.specs.Firsts.{enabling}
-use Rattle.registers.specs.Kept.{Kept, OnlySearch}
+use Rattle.registers.specs.Firsts.{enabling, with_wr3}
+use Rattle.registers.specs.Kept.{Kept}
 use Rattle.registers.specs.Writes.{decoded_did, write_did, wrote}
 use Rattle.laws.specs.Enabling.{EnablingByte, enable_command, enable_bit_alone, enable_bit_before, EnabledBy, Accepted, Found, SameBlock, EnablingsLeaveFound}
 use Rattle.laws.proofs.Writes.{wrote_kept}
@@ -36,42 +30,29 @@ EnabledIf x (Ok y) = Enabled x y
 EnabledIf x (Err f) = Unit {0}
 
 -- enabled at once, from registers r with the same block
-module _ (x : Chip) (r : Registers) (l : r.program.length ≡ x.registers.program.length) (k : r.progress ≡ x.registers.progress) where
-  enabling_enabled : EnabledIf x (enabling Zero r x)
-  enabling_enabled = grind arith
+enabling_enabled : (x : Chip) (r : Registers) → r.program.length ≡ x.registers.program.length → r.progress ≡ x.registers.progress → EnabledIf x (enabling Zero r x)
+enabling_enabled x r l k = grind arith
 
-first_says : Followers → ControlByte → Result Decoded DecodeFault
-first_says due c = Ok (record { control = c; due = due })
+-- by the byte b, where these followers are due
+abbrev EnabledBefore : ℕ → Chip → Followers → Type 0
+EnabledBefore b x q = EnabledIf x (decoded_did (decoded q b) x)
 
-command_decoded : decoded Zero 0x87 ≡ first_says Zero (control.First (Wr6 Enable))
-unfolding wr6_of first_says
-command_decoded = refl
+command_enabled : (x : Chip) → EnabledBefore 0x87 x Zero
+unfolding decoded_did wr6_of
+command_enabled x = enabling_enabled x x.registers refl refl
 
-command_enabled : (x : Chip) → EnabledIf x (decoded_did (first_says Zero (control.First (Wr6 Enable))) x)
-unfolding decoded_did first_says
-command_enabled x = grind (arith, enabling_enabled)
+wr3_enabled : (b : ℕ) (stop interrupts : Bool) (x : Chip) → decoded_first b ≡ Ok (Wr3 stop interrupts true) → followers_of b ≡ [] → EnabledBefore b x Zero
+unfolding decoded_did
+wr3_enabled b stop interrupts x e n = rw (e, n) (enabling_enabled x (with_wr3 stop interrupts x.registers) refl refl)
 
-wr3_decoded : (b : ℕ) (stop interrupts : Bool) → decoded_first b ≡ Ok (Wr3 stop interrupts true) → followers_of b ≡ [] → decoded Zero b ≡ first_says Zero (control.First (Wr3 stop interrupts true))
-unfolding first_says
-wr3_decoded b stop interrupts e n = grind arith
+last_enabled : (b : ℕ) (x : Chip) (f : Follower) → x.registers.sequence.enabling ≡ true → (f ≡ due.Mask) ⊎ (f ≡ due.Match) → EnabledBefore b x (One f)
+unfolding decoded_did
+last_enabled b x f e h = grind arith
 
-wr3_enabled : (x : Chip) (stop interrupts : Bool) → EnabledIf x (decoded_did (first_says Zero (control.First (Wr3 stop interrupts true))) x)
-unfolding decoded_did first_says
-wr3_enabled x stop interrupts = grind arith
-
-module _ (x : Chip) (e : x.registers.sequence.enabling ≡ true) where
-  last_enabled : (b : ℕ) (f : Follower) → (f ≡ due.Mask) ⊎ (f ≡ due.Match) → EnabledIf x (decoded_did (decoded (One f) b) x)
-  unfolding decoded_did
-  last_enabled b f h = grind arith
-
-decoded_enabled : (b : ℕ) (x : Chip) → Kept x.registers → EnablingByte b x.registers.sequence → EnabledIf x (decoded_did (decoded x.registers.sequence.due b) x)
-decoded_enabled b x k (enable_command d e) =
-    subst (λ v. EnabledIf x (decoded_did v x)) (sym (ap (λ d. decoded d b) d ∙ ap (decoded Zero) e ∙ command_decoded)) (command_enabled x)
-decoded_enabled b x k (enable_bit_alone stop interrupts d e n) =
-    subst (λ v. EnabledIf x (decoded_did v x)) (sym (ap (λ d. decoded d b) d ∙ wr3_decoded b stop interrupts e n)) (wr3_enabled x stop interrupts)
-decoded_enabled b x k (enable_bit_before f d e) =
-    let o : OnlySearch (listed (One f)) = subst (λ q. OnlySearch (listed q)) d (k.enabling e).followers in
-    subst (λ q. EnabledIf x (decoded_did (decoded q b) x)) (sym d) (last_enabled x e b f o.0)
+decoded_enabled : (b : ℕ) (x : Chip) → Kept x.registers → EnablingByte b x.registers.sequence → EnabledBefore b x x.registers.sequence.due
+decoded_enabled b x k (enable_command d e) = subst (EnabledBefore b x) (sym d) (subst (λ b. EnabledBefore b x Zero) (sym e) (command_enabled x))
+decoded_enabled b x k (enable_bit_alone stop interrupts d e n) = subst (EnabledBefore b x) (sym d) (wr3_enabled b stop interrupts x e n)
+decoded_enabled b x k (enable_bit_before f d e) = subst (EnabledBefore b x) (sym d) (last_enabled b x f e (rw d at (k.enabling e).followers).0)
 
 -- A WRITE AND A TABLE
 

@@ -11,7 +11,7 @@ use Rattle.laws.proofs.Enabled.{accepted_kept}
 use Rattle.laws.proofs.Writes.{wrote_kept}
 
 byte_enables : (b : ℕ) (x y : Chip) → Kept x.registers → wrote b x ≡ Ok y → y.registers.progress.enabled ≡ true → EnabledBy b x y
-byte_enables b x y k e on = record { accepted = e; byte = (wrote_kept b x y k e).only_by on }
+byte_enables b x y k e on = let w = (wrote_kept b x y k e).only_by on in assumption
 
 -- A TABLE
 
@@ -51,18 +51,9 @@ refused_none bs x r = grind arith
 
 table_enables : (bs : List ℕ) (x y : Chip) → Kept x.registers → ((y ≡ x) × RefusedNext bs x → ⊥) → y.registers.progress.enabled ≡ true → TableTook bs x y → (z : Chip) × EnabledByTable bs x z y
 table_enables bs x y k n on (inl r) = absurd (n r)
-table_enables bs x y k n on (inr l) = (
-  l.x,
-  record {
-    front = l.front;
-    byte = l.byte;
-    back = l.back;
-    is = l.is;
-    before = l.before;
-    enabling = byte_enables l.byte l.x y (accepted_kept l.front x l.x k l.before) l.accepted on;
-    after = l.after;
-  },
-)
+table_enables bs x y k n on (inr l) =
+    let e = byte_enables l.byte l.x y (accepted_kept l.front x l.x k l.before) l.accepted on in
+    (l.x, search)
 
 -- EVERY CALL
 

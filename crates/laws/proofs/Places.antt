@@ -27,11 +27,10 @@ spot_onward g r w i b a on n = grind (arith, inside_onward g r w i b.progress b.
 
 trail_placed : {F : Type 0} {f : Bool} {n : Manner} (g : Registers) {b b' : Course} {ms : List Moment} (r w i : ℕ) → Spot g r w i b.progress → Trail F f n g.program b ms b' → AllPlaced g r w i (events_in ms)
 trail_placed g r w i a here = tt
-trail_placed g r w i a (pause {m = m} {ms = ms} h t) = grind (arith, trail_placed g r w i a t)
-trail_placed g r w i a (go {b = b} {m = m} {ms = ms} h t) =
+trail_placed g r w i a (pause h t) = grind (arith, trail_placed g r w i a t)
+trail_placed g r w i a (go {b = b} h t) =
     let x = spot_onward g r w i b a h.on h.in_block in
-    let y = trail_placed g _ _ _ x.1 t in
-    grind arith
+    grind (arith, trail_placed g _ _ _ x.1 t)
 trail_placed g r w i a (relatch f l t) = trail_placed g r w i a t
 
 -- THE COUNTS BEFORE AN EVENT

@@ -12,7 +12,6 @@ use Rattle.registers.specs.declared.manner.Manner.{Manner}
 use Rattle.registers.specs.declared.program.Program.{Program}
 use Rattle.registers.specs.declared.progress.Progress.{Progress}
 use Rattle.registers.specs.declared.row.Loan.{Loan}
-use Rattle.registers.specs.declared.row.Loan.TheVariants.{Master}
 use Rattle.registers.specs.declared.row.Registers.{Registers}
 use Rattle.registers.specs.Bytes.{Step, step, latched}
 use Rattle.registers.specs.Calls.{State, cycled_state, state_on, state_after, state_after_all}
@@ -123,8 +122,7 @@ module _ (F : Type 0) (i : CycleInput) (s : State) (on : s.chip.registers.progre
 
 cycle_on : (F : Type 0) (n : Loan) (i : CycleInput) (s : State) → Holds n s.chip.registers.progress → KeptIn s → Walk F s (moment_on n i s) (state_on n i s)
 unfolding moment_on state_on
-cycle_on F Master i s q h = cycles F i s q h
-cycle_on F _ i s q h = stay h
+cycle_on F n i s q h = grind (arith, here, cycles F i s)
 
 pub cycle_walk : (F : Type 0) (i : CycleInput) (s : State) → KeptIn s → Walk F s (moment_of i s) (state_after i s)
 cycle_walk F i s h = cycle_on F s.chip.registers.loan i s h.holds h

@@ -47,9 +47,8 @@ calm r h u off q n = grind arith
 
 -- ENABLING, AT ONCE OR BY THE GROUP'S LAST BYTE
 
-module _ (r : Registers) (n : r.loan ≡ Closed) (h : r.progress.held ≡ None) (u : r.progress.stopping ≡ false) where
-  enabling_good : (due : Followers) (x : Chip) → OnlySearch (listed due) → GoodIfAccepted (due ≡ Zero) (enabling due r x)
-  enabling_good due x o = grind arith
+enabling_good : (r : Registers) → r.loan ≡ Closed → r.progress.held ≡ None → r.progress.stopping ≡ false → (due : Followers) (x : Chip) → OnlySearch (listed due) → GoodIfAccepted (due ≡ Zero) (enabling due r x)
+enabling_good r n h u due x o = grind arith
 
 -- A FIRST BYTE
 
@@ -114,9 +113,9 @@ module _ (x : Chip) (n : x.registers.loan ≡ Closed) (h : x.registers.progress.
   decoded_good : (due : Followers) (b : ℕ) → x.registers.sequence.due ≡ due → (waiting ≡ true → OnlySearch (listed due) × InBlock x.registers) → GoodIfAccepted (EnablingByte b x.registers.sequence) (decoded_did (decoded due b) x)
   decoded_good Zero b q w = first_taken_good x n h u b (decoded_first b) q refl (first_fits b)
   decoded_good (One a) b q w = then_by _ (λ l. enable_bit_before a q l.0) (taken_good _ a Zero b refl w)
-  decoded_good (Two a c) b q w = then_by _ (λ l. cc) (taken_good _ a (One c) b refl w)
-  decoded_good (Three a c d) b q w = then_by _ (λ l. cc) (taken_good _ a (Two c d) b refl w)
-  decoded_good (Four a c d f) b q w = then_by _ (λ l. cc) (taken_good _ a (Three c d f) b refl w)
+  decoded_good (Two a c) b q w = grind (arith, taken_good)
+  decoded_good (Three a c d) b q w = grind (arith, taken_good)
+  decoded_good (Four a c d e) b q w = grind (arith, taken_good)
 
 write_good : (l : Loan) (b : ℕ) (x : Chip) → x.registers.loan ≡ l → Kept x.registers → GoodIfAccepted (EnablingByte b x.registers.sequence) (write_did l b x)
 unfolding write_did
@@ -136,5 +135,6 @@ closed_before l b x y z = grind arith
 pub wrote_kept : (b : ℕ) (x y : Chip) → Kept x.registers → wrote b x ≡ Ok y → Wrote b x y
 unfolding wrote
 wrote_kept b x y k z =
-    let g : Good (EnablingByte b x.registers.sequence) y.registers = subst (GoodIfAccepted (EnablingByte b x.registers.sequence)) z (write_good x.registers.loan b x refl k) in
-    record { kept = g.kept; before = closed_before x.registers.loan b x y z; after = g.closed; only_by = g.only_by }
+    let g = subst (GoodIfAccepted (EnablingByte b x.registers.sequence)) z (write_good x.registers.loan b x refl k) in
+    let c = closed_before x.registers.loan b x y z in
+    assumption
