@@ -1,5 +1,5 @@
 -- What was found decides the reads and writes, and two boards found alike end alike. Assumes nothing.
-use Rattle.std.proofs.Common.{◌≡◌, ℕ, ◌<◌, Bool, true, false, List, [], ◌∷◌, ◌++◌, sym, refl, ◌∙◌, arith}
+use Rattle.std.proofs.Common.{◌≡◌, ℕ, ◌<◌, Bool, false, List, [], ◌∷◌, ◌++◌, sym, refl, ◌∙◌, arith}
 use Rattle.registers.specs.declared.answer.Move.{Move}
 use Rattle.registers.specs.declared.manner.Manner.{Manner}
 use Rattle.registers.specs.declared.program.Program.{Program}
@@ -14,6 +14,7 @@ use Rattle.laws.specs.Moments.{Moment, moments, events_in}
 use Rattle.laws.proofs.Steps.{step_off}
 use Rattle.laws.proofs.Trails.{Course, course, Trail, here, pause, go, relatch, step_of, next}
 use Rattle.laws.proofs.Calls.{uncontrolled_walk, bus_uncontrolled, bus_walk, moments_have_the_events}
+use Rattle.laws.proofs.Ends.{trail_off}
 use Rattle.laws.proofs.Alike.{StepsAlike, step_alike}
 
 -- THE MOVES OF A TRAIL
@@ -72,7 +73,7 @@ what_was_found_decides s t cs ds fs ft i a us ut x y =
 -- the same with the latches, and where it ends
 abbrev Chain : Program → Course → List Move → Course → Type 0
 Chain p b [] b' = b' ≡ b
-Chain p b (m ∷ ms) b' = (b.progress.enabled ≡ true) × (m ≡ (step_of p b).move) × Chain p (next p b) ms b'
+Chain p b (m ∷ ms) b' = (m ≡ (step_of p b).move) × Chain p (next p b) ms b'
 
 trail_chain : {f : Bool} {n : Manner} {p : Program} {b b' : Course} {ms : List Moment} → Trail ⊥ f n p b ms b' → Chain p b (moves_in ms) b'
 trail_chain here = refl
@@ -85,23 +86,23 @@ record CoursesAlike (b d : Course) : Type 0 where
   latches : b.latches ≡ d.latches
   contents : SameContents b.contents d.contents
 
--- a disabled channel reads and writes nothing
-chain_off : (p : Program) (b b' : Course) (ms : List Move) → b.progress.enabled ≡ false → Chain p b ms b' → (ms ≡ []) × (b' ≡ b)
-chain_off p b b' [] z h = grind arith
-chain_off p b b' (m ∷ ms) z h = grind arith
-
 next_alike : (p : Program) (b d : Course) → InRange p b.progress → CoursesAlike b d → StepsAlike p (step_of p b) (step_of p d) × CoursesAlike (next p b) (next p d)
 next_alike p b d h a = grind (arith, step_alike)
 
 -- without auto restart nothing is read or written after an end or a stop
-chain_whole : (p : Program) → p.restart ≡ false → (b b' : Course) (ms : List Move) → Chain p b ms b' → block ms ≡ ms
-chain_whole p r b b' [] u = refl
-chain_whole p r b b' (m ∷ ms) u = let i = chain_whole p r (next p b) b' ms u.2 in grind (arith, step_off, chain_off)
+trail_whole : {F : Type 0} {f : Bool} {n : Manner} {p : Program} {b b' : Course} {ms : List Moment} → p.restart ≡ false → Trail F f n p b ms b' → block (moves_in ms) ≡ moves_in ms
+trail_whole r here = refl
+trail_whole r (pause h t) = grind (arith, trail_whole r t)
+trail_whole {p = p} r (go {b = b} {m = m} {ms = ms} h t) =
+    let o = λ (z : (next p b).progress.enabled ≡ false). trail_off z t in
+    let e = step_moves p b (move_of m.event) (moves_in ms) h.is in
+    grind (arith, step_off, trail_whole r t)
+trail_whole r (relatch f l t) = trail_whole r t
 
 -- the same reads and writes from courses alike end alike
 chain_alike : (p : Program) (b d x y : Course) (ms : List Move) → InRange p b.progress → CoursesAlike b d → Chain p b ms x → Chain p d ms y → CoursesAlike x y
 chain_alike p b d x y [] h a u v = grind arith
-chain_alike p b d x y (m ∷ ms) h a u v = let s = next_alike p b d h a in chain_alike p (next p b) (next p d) x y ms s.0.in_range s.1 u.2 v.2
+chain_alike p b d x y (m ∷ ms) h a u v = let s = next_alike p b d h a in chain_alike p (next p b) (next p d) x y ms s.0.in_range s.1 u.1 v.1
 
 pub boards_end_alike : BoardsEndAlike
 boards_end_alike s t cs ds fs ft i a r us ut x y =
@@ -112,8 +113,8 @@ boards_end_alike s t cs ds fs ft i a r us ut x y =
     let second : Chain p (course t) (moves_in (moments ds t)) (course (state_at_end ds t)) = rw a.program (trail_chain v.trail) in
     let same : moves (events cs s) ≡ moves (events ds t) =
     rw (moments_have_the_events s cs, moments_have_the_events t ds) at
-    (sym (chain_whole p r _ _ _ first) ∙ rw (← moments_have_the_events s cs, ← moments_have_the_events t ds) at
-    (what_was_found_decides s t cs ds fs ft i (record { program = a.program; progress = a.progress; contents = a.contents }) (bus_uncontrolled cs s us) (bus_uncontrolled ds t ut) x.final y.final) ∙ chain_whole p r _ _ _ second) in
+    (sym (trail_whole r w.trail) ∙ rw (← moments_have_the_events s cs, ← moments_have_the_events t ds) at
+    (what_was_found_decides s t cs ds fs ft i (record { program = a.program; progress = a.progress; contents = a.contents }) (bus_uncontrolled cs s us) (bus_uncontrolled ds t ut) x.final y.final) ∙ trail_whole (cc) v.trail) in
     let c = chain_alike p (course s) (course t) _ _ (moves_in (moments cs s)) i (record { progress = a.progress; latches = a.latches; contents = a.contents }) first
     (rw (moments_have_the_events s cs, same, ← moments_have_the_events t ds) second)
     in (

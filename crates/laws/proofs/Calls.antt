@@ -12,8 +12,7 @@ use Rattle.registers.specs.declared.row.Loan.TheVariants.{Closed}
 use Rattle.registers.specs.declared.row.Service.{Service}
 use Rattle.registers.specs.Calls.{State, Call, write_call, table_call, status_call, open_call, cycle_call, run_call, return_call, acknowledge_call, reti_call, open_did, opened, return_did, returned, event_on, events_of, state_after, write_outcome, does, events, state_at_end}
 use Rattle.registers.specs.Chips.{with_loan, with_latches, with_service, with_registers, with_readout}
-use Rattle.registers.specs.Cycles.{is_active}
-use Rattle.registers.specs.Interrupts.{acknowledge_did, acknowledged, reti_did, returned_from, requested}
+use Rattle.registers.specs.Interrupts.{acknowledge_did, acknowledged, reti_did, returned_from}
 use Rattle.registers.specs.Kept.{Holds}
 use Rattle.registers.specs.ReadOuts.{status_did, status_read}
 use Rattle.registers.specs.Writes.{wrote, table_next, table_did}
@@ -89,13 +88,13 @@ pub call_walk : (F : Type 0) (c : Call) (s : State) → KeptIn s → IsTrue (is_
 unfolding does moments_in status_read opened returned acknowledged returned_from
 call_walk F (write_call b) s h a z = write_walk F (wrote b s.chip) s h z
 call_walk F (table_call bs) s h a z = rw (none bs s.chip z) (stay h)
-call_walk F (status_call l) s h a z = status_walk F (permitted refl a) s.chip.registers.loan l s h
-call_walk F (open_call l) s h a z = let r = s.chip.registers in open_walk F r.loan r.progress.enabled (is_active r.manner s.chip.forcing.forced l) s refl h
+call_walk F (status_call l) s h a z = status_walk F (grind arith) s.chip.registers.loan l s h
+call_walk F (open_call l) s h a z = open_walk F _ _ _ s refl h
 call_walk F (cycle_call i) s h a z = cycle_walk F i s h
 call_walk F (run_call is) s h a z = run_walk F is s h
-call_walk F return_call s h a z = return_walk F s.chip.registers.loan s h.holds h
-call_walk F (acknowledge_call l) s h a z = acknowledge_walk F (permitted refl a) s.chip.registers.loan (requested l s.chip.registers) s h
-call_walk F reti_call s h a z = reti_walk F (permitted refl a) s.chip.registers.loan s h
+call_walk F return_call s h a z = return_walk F _ s h.holds h
+call_walk F (acknowledge_call l) s h a z = acknowledge_walk F (permitted refl a) _ _ s h
+call_walk F reti_call s h a z = reti_walk F (permitted refl a) _ s h
 
 permits : {F : Type 0} (c : Call) (cs : List Call) → BusOnly (c ∷ cs) ⊎ F → (IsTrue (is_bus_call c) ⊎ F) × (BusOnly cs ⊎ F)
 permits c cs a = grind arith
@@ -129,22 +128,14 @@ pub events_in_then : (ms ns : List Moment) → events_in (ms ++ ns) ≡ events_i
 events_in_then [] ns = refl
 events_in_then (m ∷ ms) ns = ap (λ es. m.event ∷ es) (events_in_then ms ns)
 
-cycle_has : (n : Loan) (i : CycleInput) (s : State) → events_in (moment_on n i s) ≡ event_on n i s
-unfolding moment_on event_on
-cycle_has n i s = grind arith
-
 run_has : (is : List CycleInput) (s : State) → events_in (moments_of is s) ≡ events_of is s
-unfolding moments_of events_of
+unfolding moments_of events_of moment_on event_on
 run_has [] s = refl
-run_has (i ∷ is) s = let h = run_has is (state_after i s) in grind (arith, events_in_then, cycle_has)
-
-write_has : (v : Result Chip ChannelFault) (s : State) → [] ≡ (write_outcome v s).events
-unfolding write_outcome
-write_has v s = grind arith
+run_has (i ∷ is) s = grind (arith, events_in_then, run_has is (state_after i s))
 
 call_has : (c : Call) (s : State) → events_in (moments_in c s) ≡ (does c s).events
-unfolding does moments_in
-call_has c s = grind (arith, cycle_has, run_has, write_has)
+unfolding does moments_in moment_on event_on write_outcome
+call_has c s = grind (arith, run_has)
 
 pub moments_have_the_events : MomentsHaveTheEvents
 unfolding events moments

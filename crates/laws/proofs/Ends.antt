@@ -19,7 +19,7 @@ Disables restart m = (final m ≡ true) × (stops m ≡ false → restart ≡ fa
 
 module _ {F : Type 0} {f : Bool} {n : Manner} {p : Program} where
   -- no cycle is accepted of a disabled channel
-  trail_off : {b b' : Course} {ms : List Moment} → b.progress.enabled ≡ false → Trail F f n p b ms b' → events_in ms ≡ []
+  pub trail_off : {b b' : Course} {ms : List Moment} → b.progress.enabled ≡ false → Trail F f n p b ms b' → events_in ms ≡ []
   trail_off z here = refl
   trail_off z (pause h t) = cc
   trail_off z (go h t) = cc

@@ -66,8 +66,7 @@ module _ (g : Registers) (r w i : ℕ) (k : Progress) (c : Contents) (a : Inside
 
   step_inside : (o : Option ℕ) → k.held ≡ o → Left p (step_on o p k c) → Placed g r w i (step_on o p k c).move × Onward g r w i (step_on o p k c)
   unfolding closed
-  step_inside None e l = (grind arith, read_onward p.class refl e l)
-  step_inside (Some v) e l = grind arith
+  step_inside o e l = (grind arith, grind (arith, read_onward))
 
 pub inside_onward : (g : Registers) (r w i : ℕ) (k : Progress) (c : Contents) → Inside g r w i k → k.enabled ≡ true → Placed g r w i (step g.program k c).move × Onward g r w i (step g.program k c)
 inside_onward g r w i k c a on = step_inside g r w i k c a k.held refl (step_left g.program k c on a.in_block)

@@ -4,7 +4,6 @@ use Rattle.registers.specs.declared.manner.Manner.{Manner}
 use Rattle.registers.specs.declared.progress.Progress.{Progress}
 use Rattle.registers.specs.declared.row.Registers.{Registers}
 use Rattle.registers.specs.Calls.{State, Event, Call, events}
-use Rattle.registers.specs.Numbers.{final}
 use Rattle.laws.specs.Blocks.{ComesAfter, last_byte, was_active, ReadsHaveTheirPlaces, WritesHaveTheirPlaces, OneByteEndsTheBlock, OverInTime, CyclesAreOfFourKinds}
 use Rattle.laws.specs.Enabling.{Found, Uncontrolled}
 use Rattle.laws.specs.Events.{move_of, one_more_if, many, reads, writes, finishes_a_byte, is_final}
@@ -53,13 +52,11 @@ still t e h = grind arith
 -- each active cycle reads or writes, of which there is room for 2 × (N − M + 1), the last of them final
 in_time : (s : State) {F : Type 0} {b b' : Course} {ms : List Moment} (r w i : ℕ) → Inside s.chip.registers r w i b.progress → Trail F s.chip.forcing.forced s.chip.registers.manner s.chip.registers.program b ms b' → many is_final (events_in ms) ≡ 0 → many (was_active s) (events_in ms) + (r + w) < 2 * (last_byte s + 1)
 in_time s r w i a here z = grind arith
-in_time s r w i a (pause {m = m} {ms = ms} h t) z = let u = in_time s r w i a t (grind arith) in grind arith
-in_time s r w i a (go {b = b} {m = m} {ms = ms} h t) z =
-    let g = s.chip.registers in
-    let x = (inside_onward g r w i b.progress b.contents a h.on).1 in
-    let u = in_time s _ _ _ (still (final (step_of g.program b).move.mark) (grind arith) x) t (grind arith) in
-    let v = one_of_two b.progress.held g.program b.progress b.contents in
-    grind arith
+in_time s r w i a (pause h t) z = let u = in_time s r w i a t (grind arith) in grind arith
+in_time s r w i a (go {b = b} h t) z =
+    let x = (inside_onward s.chip.registers r w i b.progress b.contents a h.on).1 in
+    let u = in_time s _ _ _ (still _ (grind arith) x) t (grind arith) in
+    grind (arith, one_of_two)
 in_time s r w i a (relatch f l t) z = in_time s r w i a t z
 
 -- THE LAWS

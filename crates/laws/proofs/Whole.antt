@@ -37,7 +37,7 @@ empty : (r : Registers) → r.loan ≡ Closed → Kept r → r.progress.held ≡
 empty r n k = grind arith
 
 byte_whole : (b : ℕ) (y : Chip) (s : State) → KeptIn s → wrote b s.chip ≡ Ok y → Whole s [] (at_chip y s)
-byte_whole b y s h z = let w = wrote_kept b s.chip y h z in grind (arith, empty)
+byte_whole b y s h z = let w = wrote_kept b s.chip y h z in grind arith
 
 write_whole : (b : ℕ) (v : Result Chip ChannelFault) (s : State) → KeptIn s → wrote b s.chip ≡ v → Whole s [] (write_outcome v s).state
 unfolding write_outcome
