@@ -9,7 +9,7 @@ use Rattle.registers.specs.Calls.{events, state_at_end}
 use Rattle.registers.specs.Contents.{Contents, SameContents}
 use Rattle.registers.specs.Numbers.{final}
 use Rattle.laws.specs.Boards.{move_if, moves, block, InRange, WhatWasFoundDecides, BoardsEndAlike}
-use Rattle.laws.specs.Events.{move_of, one_more_if, many, is_final}
+use Rattle.laws.specs.Events.{one_more_if, many, is_final}
 use Rattle.laws.specs.Moments.{Moment, moments, events_in}
 use Rattle.laws.proofs.Steps.{step_off}
 use Rattle.laws.proofs.Trails.{Course, course, Trail, here, pause, go, relatch, step_of, next}
@@ -33,7 +33,7 @@ step_moves p b m ms e = grind arith
 trail_finals : {F : Type 0} {f : Bool} {n : Manner} {p : Program} {b b' : Course} {ms : List Moment} → Trail F f n p b ms b' → many is_final (events_in ms) ≡ finals (moves_in ms)
 trail_finals here = refl
 trail_finals (pause h t) = grind (arith, trail_finals t)
-trail_finals (go h t) = grind (arith, step_moves, trail_finals t)
+trail_finals (go h t) = grind (arith, trail_finals t)
 trail_finals (relatch f l t) = trail_finals t
 
 -- WHATEVER THE CALLS
@@ -46,7 +46,7 @@ Line p k c (m ∷ ms) = (m ≡ (step p k c).move) × Line p (step p k c).progres
 trail_line : {F : Type 0} {f : Bool} {n : Manner} {p : Program} {b b' : Course} {ms : List Moment} → Trail F f n p b ms b' → Line p b.progress b.contents (moves_in ms)
 trail_line here = tt
 trail_line (pause h t) = grind (arith, trail_line t)
-trail_line {p = p} (go {b = b} {m = m} {ms = ms} h t) = let e = step_moves p b (move_of m.event) (moves_in ms) h.is in grind (arith, trail_line t)
+trail_line (go h t) = grind (arith, step_moves, trail_line t)
 trail_line (relatch f l t) = trail_line t
 
 line_block : (p : Program) (k l : Progress) (c d : Contents) (ms ns : List Move) → InRange p k → k ≡ l → SameContents c d → Line p k c ms → Line p l d ns → 0 < finals ms → 0 < finals ns → block ms ≡ block ns
@@ -78,7 +78,7 @@ Chain p b (m ∷ ms) b' = (m ≡ (step_of p b).move) × Chain p (next p b) ms b'
 trail_chain : {f : Bool} {n : Manner} {p : Program} {b b' : Course} {ms : List Moment} → Trail ⊥ f n p b ms b' → Chain p b (moves_in ms) b'
 trail_chain here = refl
 trail_chain (pause h t) = grind (arith, trail_chain t)
-trail_chain {p = p} (go {b = b} {m = m} {ms = ms} h t) = let e = step_moves p b (move_of m.event) (moves_in ms) h.is in grind (arith, trail_chain t)
+trail_chain (go h t) = grind (arith, step_moves, trail_chain t)
 trail_chain (relatch f l t) = absurd f
 
 record CoursesAlike (b d : Course) : Type 0 where
@@ -93,10 +93,7 @@ next_alike p b d h a = grind (arith, step_alike)
 trail_whole : {F : Type 0} {f : Bool} {n : Manner} {p : Program} {b b' : Course} {ms : List Moment} → p.restart ≡ false → Trail F f n p b ms b' → block (moves_in ms) ≡ moves_in ms
 trail_whole r here = refl
 trail_whole r (pause h t) = grind (arith, trail_whole r t)
-trail_whole {p = p} r (go {b = b} {m = m} {ms = ms} h t) =
-    let o = λ (z : (next p b).progress.enabled ≡ false). trail_off z t in
-    let e = step_moves p b (move_of m.event) (moves_in ms) h.is in
-    grind (arith, step_off, trail_whole r t)
+trail_whole r (go h t) = grind (arith, step_moves, step_off, trail_off, trail_whole r t)
 trail_whole r (relatch f l t) = trail_whole r t
 
 -- the same reads and writes from courses alike end alike

@@ -1,5 +1,5 @@
 -- Every call that accepts no control byte is a walk, and so is a list of them. Assumes nothing.
-use Rattle.std.proofs.Common.{◌≡◌, ℕ, ◌+◌, ◌<◌, Bool, true, false, IsTrue, ◌⊎◌, List, [], ◌∷◌, ◌++◌, length, Result, refl, ap, inl, inr, arith}
+use Rattle.std.proofs.Common.{◌≡◌, ℕ, ◌+◌, ◌<◌, Bool, true, IsTrue, ◌⊎◌, List, [], ◌∷◌, ◌++◌, length, Result, refl, ap, inl, inr, arith}
 use Rattle.control.specs.declared.fields.Level.{Level}
 use Rattle.registers.specs.declared.chip.Chip.{Chip}
 use Rattle.registers.specs.declared.fault.ChannelFault.{ChannelFault}
@@ -11,7 +11,7 @@ use Rattle.registers.specs.declared.row.Loan.{Loan}
 use Rattle.registers.specs.declared.row.Loan.TheVariants.{Closed}
 use Rattle.registers.specs.declared.row.Service.{Service}
 use Rattle.registers.specs.Calls.{State, Call, write_call, table_call, status_call, open_call, cycle_call, run_call, return_call, acknowledge_call, reti_call, open_did, opened, return_did, returned, event_on, events_of, state_after, write_outcome, does, events, state_at_end}
-use Rattle.registers.specs.Chips.{with_loan, with_latches, with_service, with_registers, with_readout}
+use Rattle.registers.specs.Chips.{with_latches, with_service, with_registers, with_readout}
 use Rattle.registers.specs.Interrupts.{acknowledge_did, acknowledged, reti_did, returned_from}
 use Rattle.registers.specs.Kept.{Holds}
 use Rattle.registers.specs.ReadOuts.{status_did, status_read}
@@ -33,9 +33,6 @@ served_walk : (F : Type 0) → F → (l : Latches) (v : Service) (o : ReadOut) (
 served_walk F f l v o s h =
     let t : Trail F s.chip.forcing.forced s.chip.registers.manner s.chip.registers.program (course s) [] (relatched l (course s)) = relatch f l here in
     grind arith
-
-loan_walk : (F : Type 0) (n : Loan) (s : State) → Holds n s.chip.registers.progress → KeptIn s → Walk F s [] (at_chip (with_registers (with_loan n s.chip.registers) s.chip) s)
-loan_walk F n s q h = grind (arith, here)
 
 -- CONTROL BYTES THAT ARE REFUSED
 
@@ -80,21 +77,17 @@ return_walk F n s q h = grind (arith, here)
 
 -- EVERY CALL
 
--- only F lets a call change the latches, the service and the read-out
-permitted : {F : Type 0} {b : Bool} → b ≡ false → IsTrue b ⊎ F → F
-permitted e h = grind arith
-
 pub call_walk : (F : Type 0) (c : Call) (s : State) → KeptIn s → IsTrue (is_bus_call c) ⊎ F → TakesNone c s → Walk F s (moments_in c s) (does c s).state
 unfolding does moments_in status_read opened returned acknowledged returned_from
 call_walk F (write_call b) s h a z = write_walk F (wrote b s.chip) s h z
 call_walk F (table_call bs) s h a z = rw (none bs s.chip z) (stay h)
-call_walk F (status_call l) s h a z = status_walk F (grind arith) s.chip.registers.loan l s h
+call_walk F (status_call l) s h a z = status_walk F (grind arith) _ l s h
 call_walk F (open_call l) s h a z = open_walk F _ _ _ s refl h
 call_walk F (cycle_call i) s h a z = cycle_walk F i s h
 call_walk F (run_call is) s h a z = run_walk F is s h
 call_walk F return_call s h a z = return_walk F _ s h.holds h
-call_walk F (acknowledge_call l) s h a z = acknowledge_walk F (permitted refl a) _ _ s h
-call_walk F reti_call s h a z = reti_walk F (permitted refl a) _ s h
+call_walk F (acknowledge_call l) s h a z = acknowledge_walk F (grind arith) _ _ s h
+call_walk F reti_call s h a z = reti_walk F (grind arith) _ s h
 
 permits : {F : Type 0} (c : Call) (cs : List Call) → BusOnly (c ∷ cs) ⊎ F → (IsTrue (is_bus_call c) ⊎ F) × (BusOnly cs ⊎ F)
 permits c cs a = grind arith

@@ -73,10 +73,6 @@ inside_onward g r w i k c a on = step_inside g r w i k c a k.held refl (step_lef
 
 -- PAST THE BLOCK
 
--- each step is a read or a write
-pub one_of_two : (o : Option ℕ) (p : Program) (k : Progress) (c : Contents) → ((step_on o p k c).move.kind ≡ Read) ⊎ (((step_on o p k c).move.kind ≡ Write) × (o ≡ None → ⊥))
-one_of_two o p k c = grind arith
-
 pub past_onward : (g : Registers) (r w i : ℕ) (k : Progress) (c : Contents) → Past g r w i k → k.enabled ≡ true → k.count ≤ g.program.length → Placed g r w i (step g.program k c).move × Counted Past g r w i (step g.program k c)
 unfolding closed
 past_onward g r w i k c a on n = grind arith

@@ -10,7 +10,7 @@ use Rattle.laws.specs.Events.{move_of, one_more_if, many, reads, writes, finishe
 use Rattle.laws.specs.Moments.{Moment, events_in}
 use Rattle.laws.proofs.Trails.{Course, Trail, here, pause, go, relatch, step_of}
 use Rattle.laws.proofs.Calls.{uncontrolled_walk, moments_have_the_events}
-use Rattle.laws.proofs.Inside.{Inside, Past, Placed, Counted, inside_onward, past_onward, one_of_two}
+use Rattle.laws.proofs.Inside.{Inside, Past, Placed, Counted, inside_onward, past_onward}
 
 -- EVERY MOVE OF A TRAIL IN ITS PLACE
 
@@ -42,7 +42,7 @@ placed_at g r w i [] e back h = grind arith
 placed_at g r w i (x ∷ front) e back h = let p = placed_at g _ _ _ front e back h.1 in grind (arith, shift)
 
 placed_after : (g : Registers) (es front : List Event) (e : Event) → AllPlaced g 0 0 0 es → ComesAfter es front e → Placed g (many reads front) (many writes front) (many finishes_a_byte front) (move_of e)
-placed_after g es front e h a = let p = placed_at g 0 0 0 front e a.0 in grind arith
+placed_after g es front e h a = grind (arith, placed_at)
 
 -- HOW LONG IT TAKES
 
@@ -56,7 +56,7 @@ in_time s r w i a (pause h t) z = let u = in_time s r w i a t (grind arith) in g
 in_time s r w i a (go {b = b} h t) z =
     let x = (inside_onward s.chip.registers r w i b.progress b.contents a h.on).1 in
     let u = in_time s _ _ _ (still _ (grind arith) x) t (grind arith) in
-    grind (arith, one_of_two)
+    grind arith
 in_time s r w i a (relatch f l t) z = in_time s r w i a t z
 
 -- THE LAWS

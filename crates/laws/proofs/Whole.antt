@@ -1,10 +1,8 @@
 -- All calls, control bytes too: every channel stays kept, the bytes are carried, the spaces hold what was written. Assumes nothing.
-use Rattle.std.proofs.Common.{◌≡◌, ℕ, ◌+◌, List, [], ◌∷◌, ◌++◌, None, Ok, Err, Result, refl, inr, arith}
+use Rattle.std.proofs.Common.{◌≡◌, ℕ, ◌+◌, List, [], ◌∷◌, ◌++◌, Ok, Err, Result, refl, inr, arith}
 use Rattle.control.specs.declared.fault.TableFault.{TableFault}
 use Rattle.registers.specs.declared.chip.Chip.{Chip}
 use Rattle.registers.specs.declared.fault.ChannelFault.{ChannelFault}
-use Rattle.registers.specs.declared.row.Loan.TheVariants.{Closed}
-use Rattle.registers.specs.declared.row.Registers.{Registers}
 use Rattle.registers.specs.Calls.{State, Call, write_call, table_call, write_outcome, does, state_at_end}
 use Rattle.registers.specs.Kept.{Kept}
 use Rattle.registers.specs.Writes.{Done, wrote, table_next, table_did}
@@ -31,10 +29,6 @@ whole_then : {s s' s'' : State} {ms ns : List Moment} → Whole s ms s' → Whol
 whole_then k l = grind (arith, made_then, passed_then)
 
 -- CONTROL BYTES
-
--- with no loan open no byte is held
-empty : (r : Registers) → r.loan ≡ Closed → Kept r → r.progress.held ≡ None
-empty r n k = grind arith
 
 byte_whole : (b : ℕ) (y : Chip) (s : State) → KeptIn s → wrote b s.chip ≡ Ok y → Whole s [] (at_chip y s)
 byte_whole b y s h z = let w = wrote_kept b s.chip y h z in grind arith
