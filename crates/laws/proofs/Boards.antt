@@ -50,13 +50,12 @@ trail_line (go h t) = grind (arith, step_moves, trail_line t)
 trail_line (relatch f l t) = trail_line t
 
 line_block : (p : Program) (k l : Progress) (c d : Contents) (ms ns : List Move) → InRange p k → k ≡ l → SameContents c d → Line p k c ms → Line p l d ns → 0 < finals ms → 0 < finals ns → block ms ≡ block ns
-line_block p k l c d [] ns h q s x y f g = absurd (omega arith)
-line_block p k l c d (m ∷ ms) [] h q s x y f g = absurd (omega arith)
 line_block p k l c d (m ∷ ms) (n ∷ ns) h q s x y f g =
     let a = step_alike p k l c d h q s in
     let i = λ (z : final m.mark ≡ false). line_block p (step p k c).progress (step p l d).progress (step p k c).contents (step p l d).contents ms ns a.in_range a.progress a.contents x.1 y.1 (grind arith) (grind arith) in
-    let e : m ≡ n = x.0 ∙ a.move ∙ sym y.0 in
+    let e : m ≡ n = cc in
     grind arith
+line_block p k l c d _ _ h q s x y f g = absurd (omega arith)
 
 pub what_was_found_decides : WhatWasFoundDecides
 what_was_found_decides s t cs ds fs ft i a us ut x y =

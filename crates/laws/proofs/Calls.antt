@@ -1,8 +1,7 @@
 -- Every call that accepts no control byte is a walk, and so is a list of them. Assumes nothing.
-use Rattle.std.proofs.Common.{◌≡◌, ℕ, ◌+◌, ◌<◌, Bool, true, IsTrue, ◌⊎◌, List, [], ◌∷◌, ◌++◌, length, Result, refl, ap, inl, inr, arith}
+use Rattle.std.proofs.Common.{◌≡◌, ℕ, ◌+◌, ◌<◌, Bool, true, IsTrue, ◌⊎◌, List, [], ◌∷◌, ◌++◌, length, refl, ap, inl, inr, arith}
 use Rattle.control.specs.declared.fields.Level.{Level}
 use Rattle.registers.specs.declared.chip.Chip.{Chip}
-use Rattle.registers.specs.declared.fault.ChannelFault.{ChannelFault}
 use Rattle.registers.specs.declared.input.CycleInput.{CycleInput}
 use Rattle.registers.specs.declared.latches.Latches.{Latches}
 use Rattle.registers.specs.declared.outcome.Outcome.TheVariants as outcome
@@ -13,9 +12,8 @@ use Rattle.registers.specs.declared.row.Service.{Service}
 use Rattle.registers.specs.Calls.{State, Call, write_call, table_call, status_call, open_call, cycle_call, run_call, return_call, acknowledge_call, reti_call, open_did, opened, return_did, returned, event_on, events_of, state_after, write_outcome, does, events, state_at_end}
 use Rattle.registers.specs.Chips.{with_latches, with_service, with_registers, with_readout}
 use Rattle.registers.specs.Interrupts.{acknowledge_did, acknowledged, reti_did, returned_from}
-use Rattle.registers.specs.Kept.{Holds}
 use Rattle.registers.specs.ReadOuts.{status_did, status_read}
-use Rattle.registers.specs.Writes.{wrote, table_next, table_did}
+use Rattle.registers.specs.Writes.{table_next, table_did}
 use Rattle.laws.specs.Carried.{KeptIn}
 use Rattle.laws.specs.Moments.{Moment, moment_on, moments_of, moments_in, moments, events_in, MomentsHaveTheEvents}
 use Rattle.laws.specs.Enabling.{bytes_accepted, TakesNone, Uncontrolled}
@@ -35,10 +33,6 @@ served_walk F f l v o s h =
     grind arith
 
 -- CONTROL BYTES THAT ARE REFUSED
-
-write_walk : (F : Type 0) (v : Result Chip ChannelFault) (s : State) → KeptIn s → bytes_accepted 1 (write_outcome v s).outcome ≡ 0 → Walk F s [] (write_outcome v s).state
-unfolding write_outcome
-write_walk F v s h z = grind (arith, here)
 
 some : (bs : List ℕ) (l i : ℕ) (x : Chip) → 0 < l → 0 < i → bytes_accepted l (outcome.WroteTable (table_did i bs x).answer) ≡ 0 → ⊥
 unfolding table_did table_next
@@ -67,50 +61,34 @@ unfolding reti_did
 reti_walk F f Closed s h = served_walk F f s.chip.registers.latches _ s.chip.readout s h
 reti_walk F f _ s h = stay h
 
-open_walk : (F : Type 0) (n : Loan) (e a : Bool) (s : State) → s.chip.registers.progress.enabled ≡ e → KeptIn s → Walk F s [] (at_chip (open_did n e a s.chip).chip s)
-unfolding open_did
-open_walk F n e a s q h = grind (arith, here)
-
-return_walk : (F : Type 0) (n : Loan) (s : State) → Holds n s.chip.registers.progress → KeptIn s → Walk F s [] (at_chip (return_did n s.chip).chip s)
-unfolding return_did
-return_walk F n s q h = grind (arith, here)
-
 -- EVERY CALL
 
 pub call_walk : (F : Type 0) (c : Call) (s : State) → KeptIn s → IsTrue (is_bus_call c) ⊎ F → TakesNone c s → Walk F s (moments_in c s) (does c s).state
-unfolding does moments_in status_read opened returned acknowledged returned_from
-call_walk F (write_call b) s h a z = write_walk F (wrote b s.chip) s h z
+unfolding does moments_in status_read opened open_did returned return_did acknowledged returned_from write_outcome
+call_walk F (write_call b) s h a z = grind (arith, here)
 call_walk F (table_call bs) s h a z = rw (none bs s.chip z) (stay h)
 call_walk F (status_call l) s h a z = status_walk F (grind arith) _ l s h
-call_walk F (open_call l) s h a z = open_walk F _ _ _ s refl h
+call_walk F (open_call l) s h a z = grind (arith, here)
 call_walk F (cycle_call i) s h a z = cycle_walk F i s h
 call_walk F (run_call is) s h a z = run_walk F is s h
-call_walk F return_call s h a z = return_walk F _ s h.holds h
+call_walk F return_call s h a z = grind (arith, here)
 call_walk F (acknowledge_call l) s h a z = acknowledge_walk F (grind arith) _ _ s h
 call_walk F reti_call s h a z = reti_walk F (grind arith) _ s h
-
-permits : {F : Type 0} (c : Call) (cs : List Call) → BusOnly (c ∷ cs) ⊎ F → (IsTrue (is_bus_call c) ⊎ F) × (BusOnly cs ⊎ F)
-permits c cs a = grind arith
 
 all_walk : (F : Type 0) (cs : List Call) (s : State) → KeptIn s → BusOnly cs ⊎ F → Uncontrolled cs s → Walk F s (moments cs s) (state_at_end cs s)
 unfolding moments state_at_end Uncontrolled
 all_walk F [] s h a u = stay h
 all_walk F (c ∷ cs) s h a u =
-    let q = permits c cs a in
-    let w = call_walk F c s h q.0 u.0 in
-    walk_then w (all_walk F cs (does c s).state w.kept q.1 u.1)
+    let w = call_walk F c s h (grind arith) u.0 in
+    walk_then w (all_walk F cs (does c s).state w.kept (grind arith) u.1)
 
 pub uncontrolled_walk : (cs : List Call) (s : State) → KeptIn s → Uncontrolled cs s → Walk Unit s (moments cs s) (state_at_end cs s)
 uncontrolled_walk cs s h u = all_walk Unit cs s h (inr tt) u
 
-bus_takes_none : (c : Call) (s : State) → IsTrue (is_bus_call c) → TakesNone c s
-unfolding does
-bus_takes_none c s t = grind arith
-
 pub bus_uncontrolled : (cs : List Call) (s : State) → BusOnly cs → Uncontrolled cs s
-unfolding Uncontrolled
+unfolding Uncontrolled does
 bus_uncontrolled [] s b = tt
-bus_uncontrolled (c ∷ cs) s b = (bus_takes_none c s b.0, bus_uncontrolled cs (does c s).state b.1)
+bus_uncontrolled (c ∷ cs) s b = (grind arith, bus_uncontrolled cs (does c s).state b.1)
 
 pub bus_walk : (cs : List Call) (s : State) → KeptIn s → BusOnly cs → Walk ⊥ s (moments cs s) (state_at_end cs s)
 bus_walk cs s h b = all_walk ⊥ cs s h (inl b) (bus_uncontrolled cs s b)

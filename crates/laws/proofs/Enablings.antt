@@ -36,14 +36,10 @@ one_more b bs x z y e (inr l) =
     let q = l.is in
     record { x = l.x; front = b ∷ l.front; byte = l.byte; back = l.back; is = ap (λ bs. b ∷ bs) q; before = (z, e, l.before); accepted = l.accepted; after = l.after }
 
-next_took : (b : ℕ) (bs : List ℕ) (i : ℕ) (x : Chip) (v : Result Chip ChannelFault) → wrote b x ≡ v → ((z : Chip) → TableTook bs z (table_did (i + 1) bs z).chip) → TableTook (b ∷ bs) x (table_next v i (λ y. table_did (i + 1) bs y) x).chip
-unfolding table_next
-next_took b bs i x v e h = grind (arith, one_more)
-
 table_took : (i : ℕ) (bs : List ℕ) (x : Chip) → TableTook bs x (table_did i bs x).chip
-unfolding table_did
+unfolding table_did table_next
 table_took i [] x = inl (refl, tt)
-table_took i (b ∷ bs) x = next_took b bs i x (wrote b x) refl (λ z. table_took (i + 1) bs z)
+table_took i (b ∷ bs) x = let h = λ (z : Chip). table_took (i + 1) bs z in grind (arith, one_more)
 
 refused_none : (bs : List ℕ) (x : Chip) → RefusedNext bs x → bytes_accepted (length bs) (WroteTable (table_did 0 bs x).answer) ≡ 0
 unfolding table_did table_next

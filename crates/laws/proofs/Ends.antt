@@ -10,7 +10,7 @@ use Rattle.laws.specs.Carried.{KeptIn}
 use Rattle.laws.specs.Enabling.{Uncontrolled}
 use Rattle.laws.specs.Moments.{Moment, events_in}
 use Rattle.laws.proofs.Steps.{step_off}
-use Rattle.laws.proofs.Trails.{Course, Trail, here, pause, go, relatch, next}
+use Rattle.laws.proofs.Trails.{Course, Trail, here, pause, go, relatch}
 use Rattle.laws.proofs.Calls.{uncontrolled_walk, moments_have_the_events}
 
 -- a mark that disables: final, and a stop unless there is no restart
@@ -26,13 +26,13 @@ module _ {F : Type 0} {f : Bool} {n : Manner} {p : Program} where
   trail_off z (relatch x l t) = trail_off z t
 
   trail_ends : {b b' : Course} {ms : List Moment} (front back : List Event) (e : Event) → Trail F f n p b ms b' → events_in ms ≡ front ++ (e ∷ back) → Disables p.restart e.answer.mark → back ≡ []
+  trail_ends [] back e (pause {m = m} h t) q d = grind arith
+  trail_ends [] back e (go h t) q d = grind (arith, step_off, trail_off)
+  trail_ends (x ∷ front) back e (pause h t) q d = trail_ends front back e t (cc) d
+  trail_ends (x ∷ front) back e (go h t) q d = trail_ends front back e t (cc) d
+  trail_ends front back e (relatch x l t) q d = trail_ends front back e t q d
   trail_ends [] back e here q d = cc
   trail_ends (x ∷ front) back e here q d = cc
-  trail_ends [] back e (pause {m = m} h t) q d = grind arith
-  trail_ends [] back e (go {b = b} {m = m} {ms = ms} h t) q d = let f = step_off p b.progress b.contents in let g = λ (z : (next p b).progress.enabled ≡ false). trail_off z t in grind arith
-  trail_ends (x ∷ front) back e (pause {ms = ms} h t) q d = trail_ends front back e t (cc) d
-  trail_ends (x ∷ front) back e (go {ms = ms} h t) q d = trail_ends front back e t (cc) d
-  trail_ends front back e (relatch x l t) q d = trail_ends front back e t q d
 
 nothing_follows : (s : State) (calls : List Call) → KeptIn s → Uncontrolled calls s → (front back : List Event) (e : Event) → events calls s ≡ front ++ (e ∷ back) → Disables s.chip.registers.program.restart e.answer.mark → back ≡ []
 nothing_follows s cs k u front back e q d = trail_ends front back e (uncontrolled_walk cs s k u).trail (moments_have_the_events s cs ∙ q) d

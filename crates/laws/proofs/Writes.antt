@@ -12,7 +12,7 @@ use Rattle.control.specs.declared.follower.Follower.{Follower}
 use Rattle.control.specs.declared.follower.Follower.TheVariants.{Mask, Match}
 use Rattle.control.specs.declared.follower.FollowerByte.{FollowerByte}
 use Rattle.control.specs.declared.follower.Followers.{Followers}
-use Rattle.control.specs.declared.follower.Followers.TheVariants.{Zero, One, Two, Three, Four}
+use Rattle.control.specs.declared.follower.Followers.TheVariants.{Zero, One}
 use Rattle.registers.specs.declared.chip.Chip.{Chip}
 use Rattle.registers.specs.declared.fault.ChannelFault.{ChannelFault}
 use Rattle.registers.specs.declared.row.Loan.{Loan}
@@ -66,7 +66,7 @@ module _ (x : Chip) (n : x.registers.loan ≡ Closed) (h : x.registers.progress.
   command_good c due o = grind (arith, enabling_good, read_out_good)
 
   first_good : (b : ℕ) (f : First) (due : Followers) → Fitting b f due → GoodIfAccepted (EnablesAtOnce f due) (first_did f due x)
-  first_good b f due o = grind (arith, enabling_good, command_good, calm)
+  first_good b f due o = grind (arith, enabling_good, command_good)
 
   enables_first : (b : ℕ) (f : First) → x.registers.sequence.due ≡ Zero → decoded_first b ≡ Ok f → Fitting b f (queued (followers_of b)) → EnablesAtOnce f (queued (followers_of b)) → EnablingByte b x.registers.sequence
   enables_first b (first.Wr3 stop interrupts enable) q e o a = enable_bit_alone stop interrupts q (e ∙ ap (λ t. Ok (first.Wr3 stop interrupts t)) a.0) (none_queued (followers_of b) a.1)
@@ -113,9 +113,7 @@ module _ (x : Chip) (n : x.registers.loan ≡ Closed) (h : x.registers.progress.
   decoded_good : (due : Followers) (b : ℕ) → x.registers.sequence.due ≡ due → (waiting ≡ true → OnlySearch (listed due) × InBlock x.registers) → GoodIfAccepted (EnablingByte b x.registers.sequence) (decoded_did (decoded due b) x)
   decoded_good Zero b q w = first_taken_good x n h u b (decoded_first b) q refl (first_fits b)
   decoded_good (One a) b q w = then_by _ (λ l. enable_bit_before a q l.0) (taken_good _ a Zero b refl w)
-  decoded_good (Two a c) b q w = grind (arith, taken_good)
-  decoded_good (Three a c d) b q w = grind (arith, taken_good)
-  decoded_good (Four a c d e) b q w = grind (arith, taken_good)
+  decoded_good _ b q w = grind (arith, taken_good)
 
 write_good : (l : Loan) (b : ℕ) (x : Chip) → x.registers.loan ≡ l → Kept x.registers → GoodIfAccepted (EnablingByte b x.registers.sequence) (write_did l b x)
 unfolding write_did
