@@ -1,16 +1,11 @@
 -- Every call that accepts no control byte is a walk, and so is a list of them. Assumes nothing.
-use Rattle.std.proofs.Common.{◌≡◌, ℕ, ◌+◌, ◌<◌, Bool, true, IsTrue, ◌⊎◌, List, [], ◌∷◌, ◌++◌, length, refl, ap, inl, inr, arith}
-use Rattle.control.specs.declared.fields.Level.{Level}
+use Rattle.std.proofs.Common.{◌≡◌, ℕ, ◌+◌, ◌<◌, Bool, IsTrue, ◌⊎◌, List, [], ◌∷◌, ◌++◌, length, refl, ap, inl, inr, arith}
 use Rattle.registers.specs.declared.chip.Chip.{Chip}
 use Rattle.registers.specs.declared.input.CycleInput.{CycleInput}
 use Rattle.registers.specs.declared.latches.Latches.{Latches}
 use Rattle.registers.specs.declared.outcome.Outcome.TheVariants as outcome
-use Rattle.registers.specs.declared.read_out.ReadOut.{ReadOut}
 use Rattle.registers.specs.declared.row.Loan.{Loan}
-use Rattle.registers.specs.declared.row.Loan.TheVariants.{Closed}
-use Rattle.registers.specs.declared.row.Service.{Service}
-use Rattle.registers.specs.Calls.{State, Call, write_call, table_call, status_call, open_call, cycle_call, run_call, return_call, acknowledge_call, reti_call, open_did, opened, return_did, returned, event_on, events_of, state_after, write_outcome, does, events, state_at_end}
-use Rattle.registers.specs.Chips.{with_latches, with_service, with_registers, with_readout}
+use Rattle.registers.specs.Calls.{State, Call, table_call, cycle_call, run_call, acknowledge_call, open_did, opened, return_did, returned, event_on, events_of, state_after, write_outcome, does, events, state_at_end}
 use Rattle.registers.specs.Interrupts.{acknowledge_did, acknowledged, reti_did, returned_from}
 use Rattle.registers.specs.ReadOuts.{status_did, status_read}
 use Rattle.registers.specs.Writes.{table_next, table_did}
@@ -24,16 +19,9 @@ use Rattle.laws.proofs.Trails.{here, relatch, Walk, stay, walk_then, cycle_walk,
 abbrev pub at_chip : Chip → State → State
 at_chip x s = record { chip = x; contents = s.contents }
 
--- WHAT A CALL MAY CHANGE BESIDE THE PROGRESS
+-- A TABLE WHOSE BYTES ARE REFUSED
 
--- other latches, service and read-out: not in a call of the buses
-served_walk : (F : Type 0) → F → (l : Latches) (v : Service) (o : ReadOut) (s : State) → KeptIn s → Walk F s [] (at_chip (with_readout o (with_registers (with_service v (with_latches l s.chip.registers)) s.chip)) s)
-served_walk F f l v o s h =
-    let t : Trail F s.chip.forcing.forced s.chip.registers.manner s.chip.registers.program (course s) [] (relatched l (course s)) = relatch f l here in
-    grind arith
-
--- CONTROL BYTES THAT ARE REFUSED
-
+-- after a byte has been accepted, some has
 some : (bs : List ℕ) (l i : ℕ) (x : Chip) → 0 < l → 0 < i → bytes_accepted l (outcome.WroteTable (table_did i bs x).answer) ≡ 0 → ⊥
 unfolding table_did table_next
 some [] l i x p q z = omega arith
@@ -44,36 +32,25 @@ unfolding table_did table_next
 none [] x z = refl
 none (b ∷ bs) x z = grind (arith, some)
 
--- THE OTHER CALLS
+-- AN ACKNOWLEDGEMENT
 
-status_walk : (F : Type 0) → F → (n : Loan) (l : Level) (s : State) → KeptIn s → Walk F s [] (at_chip (status_did n l s.chip).chip s)
-unfolding status_did
-status_walk F f Closed l s h = served_walk F f s.chip.registers.latches s.chip.registers.service _ s h
-status_walk F f _ l s h = stay h
+-- other latches: not in a call of the buses
+relatch_in : (F : Type 0) → F → (l : Latches) (s : State) → Trail F s.chip.forcing.forced s.chip.registers.manner s.chip.registers.program (course s) [] (relatched l (course s))
+relatch_in F f l s = relatch f l here
 
 acknowledge_walk : (F : Type 0) → F → (n : Loan) (q : Bool) (s : State) → KeptIn s → Walk F s [] (at_chip (acknowledge_did n q s.chip).chip s)
 unfolding acknowledge_did
-acknowledge_walk F f Closed true s h = served_walk F f _ _ s.chip.readout s h
-acknowledge_walk F f _ _ s h = stay h
-
-reti_walk : (F : Type 0) → F → (n : Loan) (s : State) → KeptIn s → Walk F s [] (at_chip (reti_did n s.chip).chip s)
-unfolding reti_did
-reti_walk F f Closed s h = served_walk F f s.chip.registers.latches _ s.chip.readout s h
-reti_walk F f _ s h = stay h
+acknowledge_walk F f n q s h = let t = λ (l : Latches). relatch_in F f l s in grind (arith, here)
 
 -- EVERY CALL
 
 pub call_walk : (F : Type 0) (c : Call) (s : State) → KeptIn s → IsTrue (is_bus_call c) ⊎ F → TakesNone c s → Walk F s (moments_in c s) (does c s).state
-unfolding does moments_in status_read opened open_did returned return_did acknowledged returned_from write_outcome
-call_walk F (write_call b) s h a z = grind (arith, here)
+unfolding does moments_in status_read status_did opened open_did returned return_did acknowledged returned_from reti_did write_outcome
 call_walk F (table_call bs) s h a z = rw (none bs s.chip z) (stay h)
-call_walk F (status_call l) s h a z = status_walk F (grind arith) _ l s h
-call_walk F (open_call l) s h a z = grind (arith, here)
 call_walk F (cycle_call i) s h a z = cycle_walk F i s h
 call_walk F (run_call is) s h a z = run_walk F is s h
-call_walk F return_call s h a z = grind (arith, here)
 call_walk F (acknowledge_call l) s h a z = acknowledge_walk F (grind arith) _ _ s h
-call_walk F reti_call s h a z = reti_walk F (grind arith) _ s h
+call_walk F _ s h a z = grind (arith, here)
 
 all_walk : (F : Type 0) (cs : List Call) (s : State) → KeptIn s → BusOnly cs ⊎ F → Uncontrolled cs s → Walk F s (moments cs s) (state_at_end cs s)
 unfolding moments state_at_end Uncontrolled

@@ -41,10 +41,6 @@ GoodIfAccepted A (Err f) = Unit {0}
 then_by : {A B : Type 0} (v : Result Chip ChannelFault) → (A → B) → GoodIfAccepted A v → GoodIfAccepted B v
 then_by v f g = grind arith
 
--- disabled, with no enabling that waits
-calm : {A : Type 0} (r : Registers) → r.progress.held ≡ None → r.progress.stopping ≡ false → r.progress.enabled ≡ false → r.sequence.enabling ≡ false → r.loan ≡ Closed → Good A r
-calm r h u off q n = grind arith
-
 -- ENABLING, AT ONCE OR BY THE GROUP'S LAST BYTE
 
 enabling_good : (r : Registers) → r.loan ≡ Closed → r.progress.held ≡ None → r.progress.stopping ≡ false → (due : Followers) (x : Chip) → OnlySearch (listed due) → GoodIfAccepted (due ≡ Zero) (enabling due r x)
