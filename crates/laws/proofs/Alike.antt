@@ -10,10 +10,6 @@ use Rattle.registers.specs.Ports.{address_of, source_port, destination_port, sou
 use Rattle.laws.specs.Boards.{InRange}
 use Rattle.laws.proofs.Spaces.{Within, byte_same, read_same, write_same}
 
--- COUNTERS STAY IN RANGE
-
--- STEPS ALIKE
-
 pub record StepsAlike (p : Program) (h j : Step) : Type 0 where
   pub move : h.move ≡ j.move
   pub matched : h.matched ≡ j.matched

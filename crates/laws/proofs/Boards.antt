@@ -107,12 +107,15 @@ boards_end_alike s t cs ds fs ft i a r us ut x y =
     let p = s.chip.registers.program in
     let first = trail_chain w.trail in
     let second : Chain p (course t) (moves_in (moments ds t)) (course (state_at_end ds t)) = rw a.program (trail_chain v.trail) in
-    let same : moves (events cs s) ≡ moves (events ds t) =
-    rw (moments_have_the_events s cs, moments_have_the_events t ds) at
-    (sym (trail_whole r w.trail) ∙ rw (← moments_have_the_events s cs, ← moments_have_the_events t ds) at
-    (what_was_found_decides s t cs ds fs ft i (record { program = a.program; progress = a.progress; contents = a.contents }) (bus_uncontrolled cs s us) (bus_uncontrolled ds t ut) x.final y.final) ∙ trail_whole (cc) v.trail) in
-    let c = chain_alike p (course s) (course t) _ _ (moves_in (moments cs s)) i (record { progress = a.progress; latches = a.latches; contents = a.contents }) first
-    (rw (moments_have_the_events s cs, same, ← moments_have_the_events t ds) second)
+    let e = moments_have_the_events s cs in
+    let e' = moments_have_the_events t ds in
+    let blocks = what_was_found_decides s t cs ds fs ft i (record { program = a.program; progress = a.progress; contents = a.contents }) (bus_uncontrolled cs s us) (bus_uncontrolled ds t ut) x.final y.final in
+    let whole = trail_whole r w.trail in
+    let whole' = trail_whole (cc) v.trail in
+    let same : moves (events cs s) ≡ moves (events ds t) = cc in
+    let c : CoursesAlike (course (state_at_end cs s)) (course (state_at_end ds t)) =
+    chain_alike p (course s) (course t) _ _ (moves_in (moments cs s)) i (record { progress = a.progress; latches = a.latches; contents = a.contents }) first
+    (rw (e, same, ← e') second)
     in (
       same,
       record {

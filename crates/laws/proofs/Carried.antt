@@ -14,15 +14,14 @@ use Rattle.laws.proofs.Trails.{Course, Trail, here, pause, go, relatch}
 
 -- WHAT THE SPACES HOLD
 
-Makes : Move → Contents → Contents → Type 0
+-- a move is answered by its space, and makes these contents of those
+abbrev Makes : Move → Contents → Contents → Type 0
 Makes m c c' = AnsweredBy m.kind m c × (made_by m.kind m c ≡ c')
 
 step_makes : (o : Option ℕ) (p : Program) (k : Progress) (c : Contents) → Makes (step_on o p k c).move c (step_on o p k c).contents
-unfolding Makes
 step_makes o p k c = grind arith
 
 pub trail_made : {F : Type 0} {f : Bool} {n : Manner} {p : Program} {b b' : Course} {ms : List Moment} → Trail F f n p b ms b' → Made b.contents (events_in ms) b'.contents
-unfolding Makes
 trail_made here = refl
 trail_made (pause h t) = grind (arith, trail_made t)
 trail_made (go {b = b} h t) = grind (arith, step_makes, trail_made t)

@@ -15,14 +15,13 @@ use Rattle.laws.specs.Blocks.{moved_times, AtSource, AtDestination}
 use Rattle.laws.specs.Events.{one_more_if}
 use Rattle.laws.proofs.Steps.{Left, step_left}
 
--- COUNTERS
-
-abbrev pub size : Option ℕ → ℕ
+-- how many bytes are held
+abbrev size : Option ℕ → ℕ
 size None = 0
 size (Some v) = 1
 
 -- N − M
-abbrev pub last_of : Registers → ℕ
+abbrev last_of : Registers → ℕ
 last_of g = g.program.length - g.progress.count
 
 -- INSIDE THE BLOCK AND PAST IT: r bytes read, w written, i finished since the registers g were found

@@ -49,7 +49,7 @@ placed_after g es front e h a = grind (arith, placed_at)
 still : {A B : Type 0} (t : Bool) → t ≡ false → A ⊎ (B × (t ≡ true)) → A
 still t e h = grind arith
 
--- each active cycle reads or writes, of which there is room for 2 × (N − M + 1), the last of them final
+-- without an end or a stop: an active cycle reads or writes, and there is room for less than 2 × (N − M + 1) of them
 in_time : (s : State) {F : Type 0} {b b' : Course} {ms : List Moment} (r w i : ℕ) → Inside s.chip.registers r w i b.progress → Trail F s.chip.forcing.forced s.chip.registers.manner s.chip.registers.program b ms b' → many is_final (events_in ms) ≡ 0 → many (was_active s) (events_in ms) + (r + w) < 2 * (last_byte s + 1)
 in_time s r w i a here z = grind arith
 in_time s r w i a (pause h t) z = let u = in_time s r w i a t (grind arith) in grind arith

@@ -7,8 +7,6 @@ use Rattle.registers.specs.Bytes.{Step, closed, step}
 use Rattle.registers.specs.Contents.{Contents}
 use Rattle.registers.specs.Numbers.{finishes, stops, final}
 
--- FINISHING A BYTE: whether the block ends with it, whether the channel stops
-
 -- A READ OR A WRITE
 
 pub record Left (p : Program) (h : Step) : Type 0 where

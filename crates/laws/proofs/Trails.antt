@@ -110,7 +110,10 @@ module _ (F : Type 0) (i : CycleInput) (s : State) (on : s.chip.registers.progre
   CycleWalk y = Walk F s (moment_with i y s) (cycled_state y s)
 
   works : CycleWalk (worked i.waits r s.contents)
-  works = let l = step_left r.program r.progress s.contents on (h.block on).count in let q = holds_after r.manner.mode r.program (step_of r.program (course s)) l in grind (arith, go, here)
+  works =
+      let l = step_left r.program r.progress s.contents on (h.block on).count in
+      let q = holds_after r.manner.mode r.program (step_of r.program (course s)) l in
+      grind (arith, go, here)
 
   pauses : r.progress.held ≡ None → is_active r.manner s.chip.forcing.forced i.ready ≡ false → CycleWalk (paused r s.contents)
   pauses e a = grind (arith, pause, here)
