@@ -1,5 +1,4 @@
 -- Each is computed.
-use Rattle.std.proofs.Common.{refl}
 use Rattle.control.specs.Firsts.{wr6_of}
 use Rattle.registers.specs.Bytes.{closed}
 use Rattle.registers.specs.Calls.{opened, open_did, events, state_at_end, does, events_of, state_after_all, event_on, state_on, run_answer}
