@@ -1,4 +1,5 @@
-// The end of a byte: its mark, its pulse, and what a block's end or a stop does.
+// The end of a byte: its mark, its pulse, and what a block's end or a stop does. Program and progress go side by side, as
+// in a byte's read and write.
 ghost use Rattle.std.specs.Prelude.{◌≡◌, ◌≤◌};
 ghost use Rattle.registers.specs.Bytes.{finished_mark, is_last, pulsed, closed, finished};
 

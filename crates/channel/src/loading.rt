@@ -1,4 +1,5 @@
-// Load and continue: where a block starts, and what it forgets.
+// Load and continue: where a block starts, and what it forgets. Program and progress go side by side, as in a byte's read
+// and write.
 ghost use Rattle.std.specs.Prelude.{◌≡◌};
 ghost use Rattle.registers.specs.Bytes.{loaded, continued};
 ghost use Rattle.registers.specs.Ports.{loaded_destination};

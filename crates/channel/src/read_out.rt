@@ -59,6 +59,7 @@ pub fn start_read_out(marks: u8, readout: &mut ReadOut) -> Result<(), ChannelFau
 pub(crate) fn lowest(unread: u8) -> usize
     ensures { result ≡ lowest unread }
 {
+    // `as`: no `From` leads from u32 to usize
     unread.trailing_zeros().min(6) as usize
 }
 

@@ -14,7 +14,8 @@ use crate::first::First;
 use crate::follower::{Follower, FollowerByte, Followers};
 use crate::table::{Entry, TABLE};
 
-// The table, whose rule holds over the whole of it. It is lent: a constant used by value makes its 256 entries anew.
+// The table, whose rule holds over the whole of it. It is lent: by value, as tried, the
+// checker refuses a constant of so many entries.
 fn whole_table() -> &'static [Entry; 256]
     ensures { result.now ≡ ruled entry_of 0 256 }
 {
@@ -26,7 +27,7 @@ pub fn entry(byte: u8) -> Entry
     ensures whole { result ≡ entry_of byte }
     ensures order { listed result.followers ≡ followers_of byte }
 {
-    // `as`: by `usize::from` the place would be one more unknown of the proof
+    // `as`: tried by `usize::from`, with which the proof did not close
     whole_table()[byte as usize]
 }
 

@@ -1,5 +1,5 @@
-// Examples of what the libraries do: one that is proved, and tests. The tests stand in a crate of their own, since a
-// crate with tests is proved twice. It uses every library below the programs.
+// Examples of what the libraries do: two that are proved, and tests. The tests stand in a crate of their own, since a
+// crate with tests is proved twice. It uses every library below the programs but the laws.
 #![tactic(auto)]
 
 mod borrowing;

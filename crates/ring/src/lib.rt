@@ -1,6 +1,6 @@
 // A ring over a lent slice of n elements, n from 0: it keeps the last n that were pushed.
-// It serves bytes in a device space's record and cycle answers in a log. It uses no other crate;
-// specs/Kept.antt says what it keeps.
+// Its memory is lent, since the card it runs on has no heap. It serves bytes in a device space's record and cycle answers
+// in a log. It uses no other crate; specs/Kept.antt says what it keeps.
 #![tactic(auto)]
 
 ghost use Rattle.std.specs.Prelude.{◌≡◌, ◌<◌, ◌≤◌, [], ◌∷◌, ◌++◌, length, slice_set};

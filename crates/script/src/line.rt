@@ -1,5 +1,5 @@
-// The lines of a script: board lines, and what is done with the board. Each has a struct of its own: where two have the
-// same types, their names say what differs.
+// The lines of a script: board lines, and what is done with the board. Numbers up to 65,536
+// are u32, and used as places by `as usize`, since no `From` leads there.
 use crate::command::Command;
 
 #[derive(Clone, Copy)]

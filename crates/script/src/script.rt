@@ -12,7 +12,7 @@ pub(crate) struct Script {
     pub setup: Setup,
     pub commands: Vec<Command>,
     // whether an access has been read: a board line may not follow
-    // (a flag: to look for one among the commands at each board line would take a time that grows with both)
+    // (a flag: without it each board line would look through all commands for an access, which says no more)
     accessed: bool,
 }
 

@@ -9,7 +9,8 @@ use crate::device::DeviceSpace;
 pub struct LabelReader<'a> {
     port: u8,
     labels: &'a [u8],
-    // how many bytes have been read: the waiting list is the unread part of a lent slice, held for reading with a cursor
+    // how many bytes have been read. By a rule of the project the waiting list is the unread part of a lent slice, which is
+    // held for reading, with a cursor
     cursor: usize,
 }
 

@@ -57,7 +57,7 @@ impl<'a> Memory for LentRam<'a> {
         ensures slice { self.new.bytes.now ≡ stored self.old.first self.old.bytes.now address byte }
         ensures lent { self.new.bytes.ghost_name ≡ self.old.bytes.ghost_name }
     {
-        // by index: after a `get_mut` the proof knows no element of the slice
+        // by index: after the `get_mut` of a slice, as tried in the ring, a proof knows no element of it
         if let Some(i) = self.place(address) {
             self.bytes[i] = byte;
         }
