@@ -1,9 +1,9 @@
 // A control table as it is written: bytes of one or two hexadecimal digits, parted by spaces and line ends.
-ghost use Rattle.std.specs.Prelude.{◌≡◌, ◌<◌, ◌++◌, map, Some, IfOk, IfErr, OnOk};
+ghost use Rattle.std.specs.Prelude.{◌≡◌, ◌<◌, [], ◌∷◌, ◌++◌, map, None, Some, IfOk, IfErr, OnOk};
 ghost use Rattle.listing.specs.declared.read.ReadFault.TheVariants.{Memory};
 ghost use Rattle.text.specs.Numerals.{hexadecimal_of};
-ghost use Rattle.text.specs.Pieces.{words_of};
-ghost use Rattle.listing.specs.Reads.{table_words, Say, Refusal};
+ghost use Rattle.text.specs.Pieces.{words_of, lines_of};
+ghost use Rattle.listing.specs.Reads.{table_words, Say, Refusal, no_byte_in, NamesTheFirst};
 
 use std::alloc::{AllocError, AllocFailed, Global};
 use text::numeral::byte;
@@ -41,7 +41,9 @@ fn read_line<'a>(
 ) -> Result<(), ReadFault<'a>>
     requires { 0 < line }
     ensures bytes { OnOk result (map Some bytes.new.items ≡ map Some bytes.old.items ++ map (hexadecimal_of 2 0xff) (words_of text.now)) }
+    ensures all { OnOk result (no_byte_in (words_of text.now) ≡ None) }
     ensures refusal { IfErr result Refusal }
+    ensures first { IfErr result (NamesTheFirst line (text.now ∷ [])) }
 {
     for word in words(heap, text)? {
         let value = byte(word).ok_or(ReadFault::NoByte { line, word })?;
@@ -50,10 +52,11 @@ fn read_line<'a>(
     Ok(())
 }
 
-// The bytes of a table. A word that it refuses is no byte.
+// The bytes of a table, or the first word that is no byte.
 pub fn read_table<'a>(heap: Global, text: &'a [u8]) -> Result<Vec<u8>, ReadFault<'a>>
     ensures bytes { IfOk result (λ v. Say (table_words text.now) v.items) }
     ensures refusal { IfErr result Refusal }
+    ensures first { IfErr result (NamesTheFirst 1 (lines_of text.now)) }
 {
     let mut bytes = Vec::new(heap);
     for (i, line) in lines(heap, text)?.into_iter().enumerate() {

@@ -1,4 +1,9 @@
 // What is wrong with a script.
+ghost use Rattle.std.specs.Prelude.{◌≡◌, Some};
+ghost use Rattle.script.specs.declared.fault.PlayFault.TheVariants as play;
+ghost use Rattle.script.specs.declared.fault.Wrong.TheVariants as wrong;
+ghost use Rattle.script.specs.Faults.{wrong_words, fault_words, no_memory, play_words};
+
 use std::alloc::{AllocError, AllocFailed};
 use std::fmt;
 
@@ -27,9 +32,6 @@ impl Wrong {
 }
 
 impl fmt::Display for Wrong {
-    ghost use Rattle.std.specs.Prelude.{Some};
-    ghost use Rattle.script.specs.Faults.{wrong_words};
-
     ghost output = { λ w. Some (wrong_words w) };
 
     fn fmt<W: fmt::Write>(&self, f: &mut fmt::Formatter<W>) -> fmt::Result {
@@ -47,12 +49,16 @@ impl fmt::Display for Wrong {
 }
 
 impl From<AllocError> for Wrong {
+    ghost from_gives = { λ _ w. w ≡ wrong.NoMemory };
+
     fn from(_error: AllocError) -> Wrong {
         Wrong::NoMemory
     }
 }
 
 impl<T: Drop> From<AllocFailed<T>> for Wrong {
+    ghost from_gives = { λ _ w. w ≡ wrong.NoMemory };
+
     fn from(_refused: AllocFailed<T>) -> Wrong {
         Wrong::NoMemory
     }
@@ -67,9 +73,6 @@ pub struct ScriptFault {
 }
 
 impl fmt::Display for ScriptFault {
-    ghost use Rattle.std.specs.Prelude.{Some};
-    ghost use Rattle.script.specs.Faults.{fault_words};
-
     ghost output = { λ f. Some (fault_words f) };
 
     fn fmt<W: fmt::Write>(&self, f: &mut fmt::Formatter<W>) -> fmt::Result {
@@ -81,9 +84,6 @@ impl fmt::Display for ScriptFault {
 }
 
 impl From<AllocError> for ScriptFault {
-    ghost use Rattle.std.specs.Prelude.{◌≡◌};
-    ghost use Rattle.script.specs.Faults.{no_memory};
-
     ghost from_gives = { λ _ f. f ≡ no_memory };
 
     fn from(_error: AllocError) -> ScriptFault {
@@ -102,9 +102,6 @@ pub enum PlayFault {
 }
 
 impl fmt::Display for PlayFault {
-    ghost use Rattle.std.specs.Prelude.{Some};
-    ghost use Rattle.script.specs.Faults.{play_words};
-
     ghost output = { λ f. Some (play_words f) };
 
     fn fmt<W: fmt::Write>(&self, f: &mut fmt::Formatter<W>) -> fmt::Result {
@@ -116,12 +113,16 @@ impl fmt::Display for PlayFault {
 }
 
 impl From<ScriptFault> for PlayFault {
+    ghost from_gives = { λ s f. f ≡ play.Script s };
+
     fn from(fault: ScriptFault) -> PlayFault {
         PlayFault::Script(fault)
     }
 }
 
 impl From<AllocError> for PlayFault {
+    ghost from_gives = { λ _ f. f ≡ play.NoMemory };
+
     fn from(_error: AllocError) -> PlayFault {
         PlayFault::NoMemory
     }
@@ -129,6 +130,8 @@ impl From<AllocError> for PlayFault {
 
 // for callers that format a line, of which this repository has none: what fails on the way to a String is want of memory
 impl From<fmt::Error> for PlayFault {
+    ghost from_gives = { λ _ f. f ≡ play.NoMemory };
+
     fn from(_error: fmt::Error) -> PlayFault {
         PlayFault::NoMemory
     }

@@ -18,6 +18,7 @@ impl<'a> ChuteRecord<'a> {
     pub fn new(port: u8, bytes: &'a mut [u8]) -> ChuteRecord<'a>
         ensures meaning { chute_record result ≡ only port (sink (length bytes.old) []) }
         ensures port { result.port ≡ port }
+        ensures slice { result.ring.slots.now ≡ bytes.old }
         ensures lent { result.ring.slots.ghost_name ≡ bytes.entry.ghost_name }
     {
         ChuteRecord {
