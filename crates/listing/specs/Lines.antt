@@ -25,7 +25,8 @@ use Rattle.control.specs.Followers.{next_of}
 use Rattle.control.specs.Numbers.{t_cycles, fault_number}
 use Rattle.control.specs.Tables.{decoded, table_decoded}
 use Rattle.control.specs.Words.{class_word, port_word, space_word, rule_word, mode_word, level_word, group_word, command_word, follower_word}
-use Rattle.listing.specs.Parts.{hexadecimal_byte, spaced, field, flag}
+use Rattle.text.specs.Shown.{hexadecimal_byte}
+use Rattle.listing.specs.Parts.{spaced, field, flag}
 
 -- WR0: the class and the source
 abbrev pub wr0_words : Class → PortName → List ℕ

@@ -1,13 +1,5 @@
 -- The parts that lines are made of, as bytes of text.
-use Rattle.std.specs.Prelude.{ℕ, ◌+◌, ◌/◌, ◌%◌, Bool, true, false, cond, List, [], ◌∷◌, ◌++◌, codes, nat_lt}
-
--- a digit below 16: 0 to 9, A to F
-abbrev pub hexadecimal_digit : ℕ → ℕ
-hexadecimal_digit d = cond (nat_lt d 10) (48 + d) (55 + d)
-
--- a byte's two digits
-abbrev pub hexadecimal_byte : ℕ → List ℕ
-hexadecimal_byte b = hexadecimal_digit (b / 16) ∷ hexadecimal_digit (b % 16) ∷ []
+use Rattle.std.specs.Prelude.{ℕ, Bool, true, false, List, ◌++◌, codes}
 
 -- a bit
 abbrev pub bit_word : Bool → List ℕ

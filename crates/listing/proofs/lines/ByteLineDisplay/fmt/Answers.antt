@@ -1,7 +1,7 @@
 use Rattle.std.proofs.Common.{true, arith, ◌≡◌, Some}
 use Rattle.std.proofs.lemmas.Fmt.{hex_byte}
 use Rattle.std.specs.Fmt.{styled_digits_output}
-use Rattle.listing.specs.Parts.{hexadecimal_byte}
+use Rattle.text.specs.Shown.{hexadecimal_byte}
 use Rattle.listing.proofs.lines.ByteLineDisplay.fmt.Goals as goal
 
 pub returns-clause-writes : goal.returns-clause-writes
