@@ -14,8 +14,7 @@ use crate::first::First;
 use crate::follower::{Follower, FollowerByte, Followers};
 use crate::table::{Entry, TABLE};
 
-// The table, whose rule holds over the whole of it. It is lent: by value, as tried, the
-// checker refuses a constant of so many entries.
+// The table, whose rule holds over the whole of it.
 fn whole_table() -> &'static [Entry; 256]
     ensures { result.now ≡ ruled entry_of 0 256 }
 {

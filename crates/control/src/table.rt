@@ -11,8 +11,11 @@ pub struct Entry {
     pub followers: Followers,
 }
 
+// At one place of the program, so that a caller can index it by value: of so large a constant the checker refuses that.
+pub static TABLE: [Entry; 256] = ENTRIES;
+
 #[rattlefmt::skip]
-pub const TABLE: [Entry; 256] = [
+const ENTRIES: [Entry; 256] = [
     Entry { group: Some(Wr2), followers: Zero }, // 00
     Entry { group: Some(Wr0), followers: Zero }, // 01
     Entry { group: Some(Wr0), followers: Zero }, // 02

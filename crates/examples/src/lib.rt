@@ -1,8 +1,9 @@
-// Examples of what the libraries do: two that are proved, and tests. The tests stand in a crate of their own, since a
+// Examples of what the libraries do: three that are proved, and tests. The tests stand in a crate of their own, since a
 // crate with tests is proved twice. It uses every library below the programs but the laws.
 #![tactic(auto)]
 
 mod borrowing;
+mod indexing;
 mod lending;
 #[cfg(test)]
 mod scripts_played;
