@@ -33,10 +33,11 @@ fn byte_lines(heap: Global, bytes: &[u8]) -> Result<String, AllocError>
 pub fn listing(heap: Global, bytes: &[u8]) -> Result<String, AllocError>
     ensures { IfOk result (λ s. string_bytes s ≡ listing_of bytes.now) }
 {
-    let lines = byte_lines(heap, bytes)?;
+    let mut lines = byte_lines(heap, bytes)?;
     let last = OutcomeLine {
         count: bytes.len(),
         outcome: decode_table(bytes),
     };
-    format!(in heap; "{lines}{last}")
+    write!(lines, "{last}")?;
+    Ok(lines)
 }
