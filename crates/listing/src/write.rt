@@ -38,6 +38,7 @@ pub fn listing(heap: Global, bytes: &[u8]) -> Result<String, AllocError>
         count: bytes.len(),
         outcome: decode_table(bytes),
     };
+    // behind the lines: in a text of its own, a long listing would stand twice in memory
     write!(lines, "{last}")?;
     Ok(lines)
 }
